@@ -11,13 +11,21 @@ pub struct AllocationExample<'a> {
     pub remainder: &'a [i64],
 }
 
+// The bits of a 32-bit float in MW, with the whole kW that it is read as.
+#[derive(Clone, Copy)]
+pub struct SampleExample {
+    pub bits: u32,
+    pub kilowatts: u32,
+}
+
 #[derive(Clone, Copy)]
 pub enum WorkedExample<'a> {
     Allocation(AllocationExample<'a>),
+    Sample(SampleExample),
 }
 
 // The examples, each of which the definitions bear out.
-pub fn worked_examples() -> [WorkedExample<'static>; 3]
+pub fn worked_examples() -> [WorkedExample<'static>; 4]
     ensures { λ r. ⌜ All Stands r ⌝ }
 {
     [
@@ -38,6 +46,10 @@ pub fn worked_examples() -> [WorkedExample<'static>; 3]
             weights: &[-1, 3],
             cumulative: &[-2, 7],
             remainder: &[-2, 7],
+        }),
+        WorkedExample::Sample(SampleExample {
+            bits: 0x42C8_0000,
+            kilowatts: 100_000,
         }),
     ]
 }

@@ -3,6 +3,7 @@ mod list;
 mod run;
 
 use list::AllocationExample;
+use list::SampleExample;
 use list::WorkedExample;
 use list::worked_examples;
 use run::holds;
@@ -28,11 +29,19 @@ fn print_allocation(
     )
 }
 
+fn print_sample(rt: &impl Print, example: &SampleExample, holds: bool) -> io::Result<()> {
+    let bits = example.bits;
+    let kilowatts = example.kilowatts;
+    let verdict = verdict(holds);
+    println!(rt, "sample {bits:08X}: {kilowatts} kW: {verdict}")
+}
+
 fn main(rt: LibcRuntime) -> io::Result<()> {
     for example in worked_examples() {
         let holds = holds(&example);
         match example {
             WorkedExample::Allocation(allocation) => print_allocation(&rt, &allocation, holds)?,
+            WorkedExample::Sample(sample) => print_sample(&rt, &sample, holds)?,
         }
     }
     Ok(())

@@ -1,5 +1,6 @@
 // The worked examples run through the code.
 use crate::list::AllocationExample;
+use crate::list::SampleExample;
 use crate::list::WorkedExample;
 use allocation::cumulative::CumulativeRounding;
 use allocation::cumulative::CumulativeRoundingRule;
@@ -8,6 +9,10 @@ use allocation::remainder::LargestRemainderRule;
 use allocation::rule::AllocationRule;
 use allocation::rule::MAX_WEIGHTS;
 use allocation::rule::allocate_by;
+use events::fault::BookFaultPartialEq;
+use events::resource::ResourceKind;
+use events::sample::Sample;
+use std::num::f32_from_bits_with_nan;
 
 // Whether the rule accepts the example and gives these shares.
 fn gives<R: AllocationRule>(rule: &R, amount: i64, weights: &[i64], shares: &[i64]) -> bool {
@@ -25,10 +30,16 @@ fn allocates(e: &AllocationExample<'_>) -> bool {
         && gives(&LargestRemainder, e.amount, e.weights, e.remainder)
 }
 
+fn reads(e: &SampleExample) -> bool {
+    let sample = Sample::Output(f32_from_bits_with_nan(e.bits));
+    sample.reading(ResourceKind::Generator) == Ok(Some(e.kilowatts))
+}
+
 // Whether the code gives what the example says.
 pub(crate) fn holds(example: &WorkedExample<'_>) -> bool {
     match example {
         WorkedExample::Allocation(allocation) => allocates(allocation),
+        WorkedExample::Sample(sample) => reads(sample),
     }
 }
 

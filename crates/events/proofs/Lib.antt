@@ -1,0 +1,2 @@
+pub mod LastEnds
+pub mod Decisions

@@ -1,0 +1,3 @@
+pub mod Hours
+pub mod Assignments
+pub mod Entries

@@ -1,0 +1,4 @@
+pub mod Fronts
+pub mod Places
+pub mod Padded
+pub mod Keys

@@ -1,0 +1,5 @@
+mod Sums
+mod Counts
+mod Moves
+mod Wholes
+pub mod Totals
