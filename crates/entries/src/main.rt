@@ -8,6 +8,7 @@ use hours::assignment::Assignment;
 use inputs::call::Answer;
 use inputs::call::Call;
 use inputs::tables::Tables;
+use std::fmt;
 use std::io;
 
 // Three members and a generator; the last calls are refused.
@@ -62,6 +63,29 @@ const CALLS: [Call<'static>; 13] = [
     Call::Enrol { code: b"aa" },
 ];
 
+#[derive(Clone, Copy)]
+enum Numbered {
+    Answer(usize),
+    Refusal(u8),
+}
+
+impl fmt::Display for Numbered as NumberedDisplay {
+    fn fmt<W: fmt::Write>(&self, f: &mut fmt::Formatter<W>) -> fmt::Result {
+        match self {
+            Numbered::Answer(number) => write!(f, "{number}"),
+            Numbered::Refusal(number) => write!(f, "refused {number}"),
+        }
+    }
+}
+
+// An answer's number, or the number of the refusal.
+fn number(answer: Result<usize, BookFault>) -> Numbered {
+    match answer {
+        Ok(number) => Numbered::Answer(number),
+        Err(fault) => Numbered::Refusal(fault.number()),
+    }
+}
+
 fn print_answer(
     rt: &impl Print,
     number: usize,
@@ -77,12 +101,16 @@ fn print_answer(
     }
 }
 
-fn main(rt: LibcRuntime) -> io::Result<()> {
-    let mut day = Tables::open();
-    for (i, call) in CALLS.iter().enumerate() {
-        let answer = day.apply(*call);
-        print_answer(&rt, i + 1, answer)?;
-    }
+// A second trade and a reading of a second event, each by its own method.
+fn correct(rt: &impl Print, day: &mut Tables) -> io::Result<()> {
+    let trade = number(day.set_trade(18, b"AA", b"BB", 50));
+    let begin = number(day.begin_event(1200));
+    let reading = number(day.read(b"G1", Edge::End, Sample::Output(100.5)));
+    println!(rt, "trade {trade}, begin {begin}, reading {reading}")
+}
+
+// What the questions answer, refusals as their numbers.
+fn print_questions(rt: &impl Print, day: &Tables) -> io::Result<()> {
     let members = day.member_count();
     let resources = day.resource_count();
     let trades = day.trade_count();
@@ -90,5 +118,18 @@ fn main(rt: LibcRuntime) -> io::Result<()> {
     println!(
         rt,
         "{members} members, {resources} resources, {trades} trades, {events} closed events"
-    )
+    )?;
+    let member = number(day.member_place(b"BB"));
+    let resource = number(day.resource_place(b"G2"));
+    println!(rt, "BB at {member}, G2 {resource}")
+}
+
+fn main(rt: LibcRuntime) -> io::Result<()> {
+    let mut day = Tables::open();
+    for (i, call) in CALLS.iter().enumerate() {
+        let answer = day.apply(*call);
+        print_answer(&rt, i + 1, answer)?;
+    }
+    correct(&rt, &mut day)?;
+    print_questions(&rt, &day)
 }
