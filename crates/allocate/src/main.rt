@@ -1,4 +1,6 @@
 // Answers each line of standard input, an amount and its weights, with the shares under each rule, and ends with a summary.
+#![tactic(auto)]
+
 mod answer;
 mod request;
 mod tally;

@@ -1,4 +1,6 @@
 // The edges of what a rule refuses, run under both rules.
+#![tactic(auto)]
+
 #[cfg(test)]
 mod tests {
     use allocation::cumulative::CumulativeRounding;

@@ -1,4 +1,6 @@
 // Which calls clear which settled hours, the refusals of settlement, and refunds at their edges.
+#![tactic(auto)]
+
 #[cfg(test)]
 mod tests {
     use allocation::cumulative::CumulativeRounding;

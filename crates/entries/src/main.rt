@@ -1,4 +1,6 @@
 // Enters a small day and prints what each call answered, and what then stands.
+#![tactic(auto)]
+
 use events::calls::EventCall;
 use events::event::Edge;
 use events::fault::BookFault;

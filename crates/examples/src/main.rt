@@ -1,4 +1,6 @@
 // Prints each worked example and whether the code gives what it says.
+#![tactic(auto)]
+
 mod list;
 mod run;
 

@@ -1,4 +1,6 @@
 // Every refusal of the inputs at its edge, the order of refusals, and what the questions answer.
+#![tactic(auto)]
+
 #[cfg(test)]
 mod tests {
     use events::event::Edge;

@@ -1,4 +1,6 @@
 // Shortfalls in the day's events, and the refunds that they call for.
+#![tactic(auto)]
+
 pub mod daily;
 mod minutes;
 mod owners;

@@ -1,5 +1,7 @@
 // Plays the story of one hour and prints it: settled, cleared by a late trade and settled again,
 // and once more with the trade the other way round. Then the same inputs are entered in another order.
+#![tactic(auto)]
+
 mod story;
 
 use allocation::cumulative::CumulativeRounding;

@@ -1,4 +1,6 @@
 // Codes, lists in fixed memory, the one way to find by key, and the bounds of the unit.
+#![tactic(auto)]
+
 pub mod code;
 pub mod find;
 pub mod limits;
