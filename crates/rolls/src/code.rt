@@ -1,5 +1,5 @@
 // The code of a member or a resource: 1 to 6 capital letters or digits.
-ghost use Rattle.std.specs.Prelude.{◌≡◌, IfSome, if◌then◌else◌, Some, None, Decides};
+ghost use Rattle.std.specs.Prelude.{◌≡◌, IfSome, if◌then◌else◌, Some, None};
 ghost use Rattle.std.specs.Str.{bytes_eq};
 ghost use Rattle.rolls.specs.Codes.{is_sign, good, code_of, text_of};
 ghost use Rattle.std.specs.Cmp.Rules.{comparing};
@@ -23,7 +23,7 @@ pub const NO_CODE: Code = Code {
 };
 
 impl PartialEq for Code {
-    ghost equals = { λ x y r. Decides r (x ≡ y) };
+    ghost eq = { λ x y. bytes_eq x.signs y.signs };
 
     ghost laws = { Keys.partial_equiv_from_equiv (Prim.search (comparing, rules)) };
 

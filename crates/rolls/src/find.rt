@@ -15,7 +15,7 @@ pub trait Keyed {
 
 // The first place whose element has the key.
 pub fn find<X: Keyed>(items: &[X], key: &X::Key) -> Option<usize>
-    ensures value { result ≡ place_by (λ x. matches x key.now) items.now }
+    ensures value { result ≡ place_by (λ x. X.matches x key.now) items.now }
     ensures within { IfSome result (λ i. i < length items.now) }
 {
     for (i, x) in items.iter().enumerate() {

@@ -12,8 +12,8 @@ pub loop-left-init : goal.loop-left-init
 loop-left-init c =
     let p = admitted _ _ _ _ c.requires in
     let e = to_z-of_z w64 c.args.whole c.ranges.whole in
-    let fr : SFits w64 c.take-all-down-left.result = search rules in
-    let o = c.take-all-down-left.ensures in
+    let fr : SFits w64 c.take_all_down-left.result = search rules in
+    let o = c.take_all_down-left.ensures in
     serving_starts _ _ _ _ _ _ p.fit.above (e ∙ p.whole) o.shares o.keys (to_z-of_z w64 _ fr ∙ o.left)
 
 pub hand-out-one-requires : goal.hand-out-one-requires
@@ -26,7 +26,7 @@ hand-out-one-requires c =
 pub loop-left-preserved : goal.loop-left-preserved
 loop-left-preserved c =
     let p = admitted _ _ _ _ c.requires in
-    serving_on _ _ _ _ _ _ _ _ p.fit.above (omega (arith, ints)) (omega (arith, ints)) c.hand-out-one.ensures.shares c.hand-out-one.ensures.keys c.loop-left.invariant
+    serving_on _ _ _ _ _ _ _ _ p.fit.above (omega (arith, ints)) (omega (arith, ints)) c.hand_out_one.ensures.shares c.hand_out_one.ensures.keys c.loop-left.invariant
 
 pub returns : goal.returns
 returns c =

@@ -8,8 +8,8 @@ use Rattle.lines.proofs.Steps.{filled_more}
 use Rattle.lines.proofs.Crediting.{delivered_is}
 use Rattle.lines.proofs.credits.delivered_by_resource.Goals as goal
 
-pub overflow-sub-assigned : goal.overflow-sub-assigned
-overflow-sub-assigned c =
+pub overflow_sub-assigned : goal.overflow_sub-assigned
+overflow_sub-assigned c =
     let d = the_day c.args.tables.now in
     let k = c.args.hour in
     let r = c.loop-place.place in

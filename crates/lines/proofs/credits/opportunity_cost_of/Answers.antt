@@ -10,16 +10,16 @@ use Rattle.lines.proofs.credits.opportunity_cost_of.Goals as goal
 priced : (c : goal.After-cents) → c.cents.result ≡ half_up (c.args.delivered *ℤ pos c.in-PoolScheduled.offer) (pos 1000)
 priced c = c.cents.ensures ∙ ap (λ (z : ℤ). half_up (z *ℤ pos c.in-PoolScheduled.offer) (pos 1000)) (omega (arith, ints))
 
-pub overflow-add-cents : goal.overflow-add-cents
-overflow-add-cents c =
+pub overflow_add-cents : goal.overflow_add-cents
+overflow_add-cents c =
     let o = ap offer_of c.in-PoolScheduled.is in
     let p = ap costs_of c.in-PoolScheduled.is in
     let b = cents_bounds c.args.delivered c.in-PoolScheduled.offer c.requires.low c.requires.most (omega arith) in
     let e = priced c in
     omega (arith, ints, b.0, b.1)
 
-pub overflow-sub-cents : goal.overflow-sub-cents
-overflow-sub-cents c =
+pub overflow_sub-cents : goal.overflow_sub-cents
+overflow_sub-cents c =
     let o = ap offer_of c.in-PoolScheduled.is in
     let p = ap costs_of c.in-PoolScheduled.is in
     let b = cents_bounds c.args.delivered c.in-PoolScheduled.offer c.requires.low c.requires.most (omega arith) in

@@ -7,8 +7,8 @@ use Rattle.lines.proofs.Steps.{filled_more}
 use Rattle.lines.proofs.Crediting.{cost_is, delivered_small, credit_small}
 use Rattle.lines.proofs.credits.opportunity_costs_by_resource.Goals as goal
 
-pub opportunity-cost-of-requires : goal.opportunity-cost-of-requires
-opportunity-cost-of-requires c =
+pub opportunity_cost_of-requires : goal.opportunity_cost_of-requires
+opportunity_cost_of-requires c =
     let d = the_day c.args.tables.now in
     let r = c.loop-place.place in
     let n = ap length c.resources-place-end.ensures.value in
@@ -18,7 +18,7 @@ opportunity-cost-of-requires c =
     let v = delivered_small c.args.tables.now c.args.hour c.requires.hour r l in
     let w = credit_small c.args.tables.now c.args.hour c.requires.hour r l in
     record {
-      small = rw c.assignment-at-assignment.ensures ((bounded c.args.tables.now c.args.hour c.requires.hour).day.assignments c.args.hour r c.requires.hour l);
+      small = rw c.assignment_at-assignment.ensures ((bounded c.args.tables.now c.args.hour c.requires.hour).day.assignments c.args.hour r c.requires.hour l);
       low = omega (arith, ints, v.0, v.1);
       most = omega (arith, ints, v.0, v.1);
       clearing = omega (arith, ints, w.0, w.1);
@@ -36,5 +36,5 @@ loop-place-preserved c =
     let y = c.requires.clearing.1 r l in
     let v = delivered_small c.args.tables.now k c.requires.hour r l in
     let w = credit_small c.args.tables.now k c.requires.hour r l in
-    let e = cost_is d k x r _ _ _ _ c.assignment-at-assignment.ensures (omega (arith, ints, v.0, v.1)) (omega (arith, ints, w.0, w.1)) c.opportunity-cost-of.ensures in
+    let e = cost_is d k x r _ _ _ _ c.assignment_at-assignment.ensures (omega (arith, ints, v.0, v.1)) (omega (arith, ints, w.0, w.1)) c.opportunity_cost_of.ensures in
     filled_more (opportunity_cost_credit_of d k x) c.loop-place.figures r _ (omega arith) (omega (arith, ints)) c.loop-place.invariant

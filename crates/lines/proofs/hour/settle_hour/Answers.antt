@@ -12,11 +12,11 @@ use Rattle.lines.proofs.hour.settle_hour.Goals as goal
 pub returns-in-default : goal.returns-in-default
 returns-in-default g c = (refused_load (g.R.AllocationRule.shares c.args.rule.now) c.args.tables.now c.args.hour c.in-default.ensures, refl)
 
-pub returns-in-default-pay-refunds : goal.returns-in-default-pay-refunds
-returns-in-default-pay-refunds g c = (refused_payee (g.R.AllocationRule.shares c.args.rule.now) c.args.tables.now c.args.hour c.in-default-pay-refunds.ensures, refl)
+pub returns-in-default-pay_refunds : goal.returns-in-default-pay_refunds
+returns-in-default-pay_refunds g c = (refused_payee (g.R.AllocationRule.shares c.args.rule.now) c.args.tables.now c.args.hour c.in-default-pay_refunds.ensures, refl)
 
-pub overflow-add-result : goal.overflow-add-result
-overflow-add-result g c =
+pub overflow_add-result : goal.overflow_add-result
+overflow_add-result g c =
     let t = c.args.tables.now in
     let k = c.args.hour in
     let s = c.args.rule.now in
@@ -27,8 +27,8 @@ overflow-add-result g c =
     let q = the_sales t k in
     let b = bounded t k c.requires in
     let l = carried t k c.requires u lawful c.in-Some.ensures.loaded in
-    let e = c.clear-hour-cleared.ensures.total in
-    let f = c.in-Some-pay-refunds.ensures.total in
+    let e = c.clear_hour-cleared.ensures.total in
+    let f = c.in-Some-pay_refunds.ensures.total in
     omega (arith, ints, A_small d k x q b, C_above d k x q b, C_scaled d k x q b, O_above d k x q b, O_small d k x q b, R_above d k x q b u lawful l, R_small d k x q b u lawful l)
 
 pub returns : goal.returns
@@ -43,14 +43,14 @@ returns g c =
     let q = the_sales t k in
     let b = bounded t k c.requires in
     let o = c.in-Some.ensures in
-    let p = c.in-Some-pay-refunds.ensures in
+    let p = c.in-Some-pay_refunds.ensures in
     let l = carried t k c.requires u lawful o.loaded in
-    let e = c.clear-hour-cleared.ensures.total in
+    let e = c.clear_hour-cleared.ensures.total in
     let f = p.total in
     let z = total_is u t k lawful (refund_allocable u t k c.requires lawful o.loaded p.payable) (payees_length t k u c.in-Some.owed.owed o.owed) in (
       accepted u t k o.loaded p.payable,
       (
-        lines_are u t k c.in-Some.owed c.clear-hour-cleared.result c.in-Some-pay-refunds.payments c.member_count.result _ o c.clear-hour-cleared.ensures p c.member_count.ensures.value c.lines-of.ensures.members c.lines-of.ensures.rest,
+        lines_are u t k c.in-Some.owed c.clear_hour-cleared.result c.in-Some-pay_refunds.payments c.member_count.result _ o c.clear_hour-cleared.ensures p c.member_count.ensures.value c.lines_of.ensures.members c.lines_of.ensures.rest,
         omega (arith, ints, A_small d k x q b, C_above d k x q b, C_scaled d k x q b, O_above d k x q b, O_small d k x q b, R_above d k x q b u lawful l, R_small d k x q b u lawful l),
       ),
     )

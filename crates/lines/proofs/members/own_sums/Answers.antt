@@ -13,5 +13,5 @@ pub loop-member-preserved : goal.loop-member-preserved
 loop-member-preserved c =
     let m = c.loop-member.member in
     let f = at c.args.figures.now in
-    let e = c.own-sum.ensures.value ∙ ap (λ (rs : List Resource). sum (filter (λ k. eqb (get_or rs k no_resource).owner m) (range_with_len 0 (length rs))) f) c.resources-resources.ensures.value in
+    let e = c.own_sum.ensures.value ∙ ap (λ (rs : List Resource). sum (filter (λ k. eqb (get_or rs k no_resource).owner m) (range_with_len 0 (length rs))) f) c.resources-resources.ensures.value in
     filled_more (λ m. own (the_day c.args.tables.now) m f) c.loop-member.sums m _ (omega arith) (omega (arith, ints)) c.loop-member.invariant

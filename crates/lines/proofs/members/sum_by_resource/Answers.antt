@@ -8,8 +8,8 @@ use Rattle.lines.proofs.Steps.{first_list}
 use Rattle.lines.proofs.Sizes.{front_few, front_moderate}
 use Rattle.lines.proofs.members.sum_by_resource.Goals as goal
 
-pub sum-of-requires : goal.sum-of-requires
-sum-of-requires c =
+pub sum_of-requires : goal.sum_of-requires
+sum_of-requires c =
     let n = ap length c.resources.ensures.value in
     record {
       few = front_few (length c.resources.result.now) c.args.figures.now c.resources.ensures.few;

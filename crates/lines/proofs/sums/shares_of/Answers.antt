@@ -6,9 +6,9 @@ use Rattle.lines.proofs.sums.shares_of.Goals as goal
 
 pub returns : goal.returns
 returns g c =
-    let k = simp length-take at c.allocate-amount.auto.shares in
+    let k = simp length-take at c.allocate_amount.auto.shares in
     let t = g.R.AllocationRule.shares c.args.rule.now in
     record {
-      value = take_at c.allocate-amount.new.shares _ (length c.args.weights.now) (omega arith) ∙ c.allocate-amount.ensures ∙ ap (λ (a : ℤ). allocated t a c.args.weights.now) (omega (arith, ints));
+      value = take_at c.allocate_amount.new.shares _ (length c.args.weights.now) (omega arith) ∙ c.allocate_amount.ensures ∙ ap (λ (a : ℤ). allocated t a c.args.weights.now) (omega (arith, ints));
       places = simp (length-append, length-drop) (omega arith);
     }

@@ -21,15 +21,15 @@ loop-trade-preserved c =
     let ts = items t.trades.places in
     let i = c.loop-trade.trade-index in
     let k = c.args.hour in
-    let n = ap length c.standing-trades-trade-items.ensures.value in
+    let n = ap length c.standing_trades-trade-items.ensures.value in
     let l : i < length ts = omega arith in
-    let x = get_or c.standing-trades-trade-items.result.now i no_trade in
-    let e : x ≡ get_or ts i no_trade = ap (λ (us : List Trade). get_or us i no_trade) c.standing-trades-trade-items.ensures.value in
+    let x = get_or c.standing_trades-trade-items.result.now i no_trade in
+    let e : x ≡ get_or ts i no_trade = ap (λ (us : List Trade). get_or us i no_trade) c.standing_trades-trade-items.ensures.value in
     let small = (trade_sound t i no_trade x l e).2 in
     elim c.if-trade-hour.branch [
       | then-trade-hour w ↦
-          let step = λ (m : ℕ) (h : m < 16). net_more k m ts i no_trade x (at c.loop-trade.net m) (at c.if-trade-hour.net m) l e small (c.loop-trade.invariant.1 m h) (c.loop-trade.invariant.2 m h) (eq-eqb _ k w.if-trade-hour.true) (ap (λ (xs : List ℤ). at xs m) w.net_is ∙ w.enter-trade.ensures m h) in
-          (omega (arith, ap length w.net_is, w.enter-trade.auto.net), λ m h. (step m h).0, λ m h. (step m h).1)
+          let step = λ (m : ℕ) (h : m < 16). net_more k m ts i no_trade x (at c.loop-trade.net m) (at c.if-trade-hour.net m) l e small (c.loop-trade.invariant.1 m h) (c.loop-trade.invariant.2 m h) (eq-eqb _ k w.if-trade-hour.true) (ap (λ (xs : List ℤ). at xs m) w.net_is ∙ w.enter_trade.ensures m h) in
+          (omega (arith, ap length w.net_is, w.enter_trade.auto.net), λ m h. (step m h).0, λ m h. (step m h).1)
       | else-trade-hour w ↦
           let step = λ (m : ℕ) (h : m < 16). net_stays k m ts i no_trade x (at c.loop-trade.net m) (at c.if-trade-hour.net m) l e small (c.loop-trade.invariant.1 m h) (c.loop-trade.invariant.2 m h) (ne_eqb _ k w.if-trade-hour.false) (ap (λ (xs : List ℤ). at xs m) w.net_is) in
           (ap length w.net_is ∙ c.loop-trade.invariant.0, λ m h. (step m h).0, λ m h. (step m h).1)
@@ -38,7 +38,7 @@ loop-trade-preserved c =
 pub returns : goal.returns
 returns c =
     let ts = items c.args.tables.now.trades.places in
-    let n = ap length c.standing-trades-trade-items.ensures.value in
+    let n = ap length c.standing_trades-trade-items.ensures.value in
     let few = few_members c.args.tables.now in
     let e = take_all c.loop-trade.trade-index ts (omega arith) in (
       c.loop-trade.invariant.0,
@@ -50,12 +50,12 @@ returns c =
           omega (arith, ints),
     )
 
-pub enter-trade-requires : goal.enter-trade-requires
-enter-trade-requires c =
+pub enter_trade-requires : goal.enter_trade-requires
+enter_trade-requires c =
     let t = c.args.tables.now in
     let i = c.loop-trade.trade-index in
-    let n = ap length c.standing-trades-trade-items.ensures.value in
-    let f = c.standing-trades-trade-items.ensures.few in
-    let x = get_or c.standing-trades-trade-items.result.now i no_trade in
-    let s = trade_sound t i no_trade x (omega arith) (ap (λ (us : List Trade). get_or us i no_trade) c.standing-trades-trade-items.ensures.value) in
+    let n = ap length c.standing_trades-trade-items.ensures.value in
+    let f = c.standing_trades-trade-items.ensures.few in
+    let x = get_or c.standing_trades-trade-items.result.now i no_trade in
+    let s = trade_sound t i no_trade x (omega arith) (ap (λ (us : List Trade). get_or us i no_trade) c.standing_trades-trade-items.ensures.value) in
     record { places = c.loop-trade.invariant.0; seller = s.0; buyer = s.1; small = s.2; modest = λ m h. let b = c.loop-trade.invariant.2 m h in omega arith }

@@ -23,7 +23,7 @@ cents-requires g c =
     let k : n < length d.roll = omega (arith, ap length same) in
     let low = worst_above d b t n in
     let most = worst_small d b t n lawful k in
-    let value = c.largest-retroactive-largest.ensures n k in
+    let value = c.largest_retroactive-largest.ensures n k in
     let sum_is_lem = ap (λ (xs : List Resource). (get_or xs n no_resource).interval_price_sum) same in
     record { low = omega (arith, ints); most = omega (arith, ints); price = omega (arith, sum_is_lem, b.price_sums n k) }
 
@@ -37,8 +37,8 @@ loop-place-preserved g c =
     let n = c.loop-place.place in
     let k : n < length d.roll = omega (arith, ap length same) in
     let f : SFits w64 c.cents.result = search rules in
-    let h : SFits w64 (at c.largest-retroactive-largest.result n) = search rules in
-    let value : to_z w64 (of_z w64 (at c.largest-retroactive-largest.result n)) ≡ largest_shortfall t d n = to_z-of_z w64 _ h ∙ c.largest-retroactive-largest.ensures n k in (
+    let h : SFits w64 (at c.largest_retroactive-largest.result n) = search rules in
+    let value : to_z w64 (of_z w64 (at c.largest_retroactive-largest.result n)) ≡ largest_shortfall t d n = to_z-of_z w64 _ h ∙ c.largest_retroactive-largest.ensures n k in (
       simp length-set c.loop-place.invariant.0,
       written (day_refund t d) c.loop-place.refunds n _ (omega (arith, c.loop-place.invariant.0, c.resources-resources.ensures.few))
           (to_z-of_z w64 _ f ∙ c.cents.ensures

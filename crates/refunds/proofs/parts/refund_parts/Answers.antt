@@ -6,8 +6,8 @@ use Rattle.settlement.proofs.Steps.{written}
 use Rattle.refunds.specs.Rows.{day}
 use Rattle.refunds.proofs.parts.refund_parts.Goals as goal
 
-pub refund-part-requires : goal.refund-part-requires
-refund-part-requires g c =
+pub refund_part-requires : goal.refund_part-requires
+refund_part-requires g c =
     let n = c.loop-place.place in
     let k : n < length (day c.args.tables.now).roll = omega (arith, ap length c.resources-resources.ensures.value) in
     let small : SFits w64 (at c.args.refunds.now n) = search rules in

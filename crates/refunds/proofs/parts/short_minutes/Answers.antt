@@ -19,11 +19,11 @@ bounds-shortfalls-resource c = omega (arith, (bounded_day c.args.tables.now).few
 pub offset-bounds-shortfalls-resource : goal.offset-bounds-shortfalls-resource
 offset-bounds-shortfalls-resource c = omega (arith, (bounded_day c.args.tables.now).few_resources)
 
-pub overflow-add-minutes : goal.overflow-add-minutes
-overflow-add-minutes c =
-    let e = get_or c.closed-events-events.result.now c.loop-place.place no_event in
+pub overflow_add-minutes : goal.overflow_add-minutes
+overflow_add-minutes c =
+    let e = get_or c.closed_events-events.result.now c.loop-place.place no_event in
     let few = (bounded_day c.args.tables.now).few_events in
-    let same = ap length c.closed-events-events.ensures in
+    let same = ap length c.closed_events-events.ensures in
     let low = minutes_above e c.args.hour in
     let most = minutes_small e c.args.hour in
     omega (arith, ints, c.loop-place.invariant.1, c.loop-place.invariant.2)
@@ -33,12 +33,12 @@ loop-place-preserved c =
     let d = day c.args.tables.now in
     let n = c.loop-place.place in
     let r = c.args.resource in
-    let es = c.closed-events-events.result.now in
+    let es = c.closed_events-events.result.now in
     let here = c.loop-place-test.true in
     let e = get_or es n no_event in
     let few = (bounded_day c.args.tables.now).few_events in
-    let same = ap length c.closed-events-events.ensures in
-    let row = row_is d es c.closed-events-events.ensures c.args.shortfalls.now.rows n r c.requires.shortfalls here c.requires.resource in
+    let same = ap length c.closed_events-events.ensures in
+    let row = row_is d es c.closed_events-events.ensures c.args.shortfalls.now.rows n r c.requires.shortfalls here c.requires.resource in
     let more = sum_front_more es (λ (e : Event). cond (counts e) (cond (lt_z (pos 0) (shortfall d e r)) (minutes_in e c.args.hour) (pos 0)) (pos 0)) n no_event here in
     let low = minutes_above e c.args.hour in
     let most = minutes_small e c.args.hour in
@@ -49,7 +49,7 @@ loop-place-preserved c =
     elim c.if-shortfalls-place-gt0.branch [
       | then-shortfalls-place-gt0 w ↦
           let v = above_zero (counts e) (shortfall d e r) _ (minutes_in e c.args.hour) row (simp to_z-of_z at w.if-shortfalls-place-gt0.true) in
-          let m = w.minutes-in-minutes.ensures in
+          let m = w.minutes_in-minutes.ensures in
           (omega (arith, ints, w.minutes-is), omega (arith, ints, w.minutes-is), omega (arith, ints, w.minutes-is))
       | else-shortfalls-place-gt0 w ↦
           let v = not_above_zero (counts e) (shortfall d e r) _ (minutes_in e c.args.hour) row (simp to_z-of_z at w.if-shortfalls-place-gt0.false) in
@@ -60,5 +60,5 @@ pub returns : goal.returns
 unfolding refund_minutes counted
 returns c =
     let d = day c.args.tables.now in
-    sum_kept_twice counts (λ e. lt_z (pos 0) (shortfall d e c.args.resource)) c.closed-events-events.result.now d.closed (λ e. minutes_in e c.args.hour) c.loop-place.place _
-    c.closed-events-events.ensures c.loop-place-test.false c.loop-place.invariant.0
+    sum_kept_twice counts (λ e. lt_z (pos 0) (shortfall d e c.args.resource)) c.closed_events-events.result.now d.closed (λ e. minutes_in e c.args.hour) c.loop-place.place _
+    c.closed_events-events.ensures c.loop-place-test.false c.loop-place.invariant.0

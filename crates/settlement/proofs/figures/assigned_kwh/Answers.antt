@@ -4,8 +4,8 @@ use Rattle.hours.specs.Assignments.{kwh_of}
 use Rattle.settlement.proofs.Tables.{few_resources}
 use Rattle.settlement.proofs.figures.assigned_kwh.Goals as goal
 
-pub assignment-at-requires : goal.assignment-at-requires
-assignment-at-requires c =
+pub assignment_at-requires : goal.assignment_at-requires
+assignment_at-requires c =
     let few = few_resources c.args.tables.now in
     record { hour = c.requires.hour; resource = omega arith }
 

@@ -16,8 +16,8 @@ same q p h k l = let a : to_z w64 (of_z w64 q) ≡ q = omega (arith, ints) in le
 fits : (z : ℤ) → pos 0 ≤ℤ z → z ≤ℤ pos 2000000000000 → SFits w64 z
 fits z h k = omega (arith, ints)
 
-pub overflow-mul-quantity : goal.overflow-mul-quantity
-overflow-mul-quantity c =
+pub overflow_mul-quantity : goal.overflow_mul-quantity
+overflow_mul-quantity c =
     let b = product c.args.quantity c.args.price c.requires.low c.requires.most c.requires.price in
     rw (same c.args.quantity c.args.price c.requires.low c.requires.most c.requires.price) (fits _ b.0 b.1)
 
@@ -29,8 +29,8 @@ whole q p h k l =
 weaker : (z : ℤ) → z ≤ℤ pos 2000000000000 → z ≤ℤ pos 4000000000000
 weaker z h = omega (arith, ints)
 
-pub per-thousand-requires : goal.per-thousand-requires
-per-thousand-requires c =
+pub per_thousand-requires : goal.per_thousand-requires
+per_thousand-requires c =
     let e = whole c.args.quantity c.args.price c.requires.low c.requires.most c.requires.price in
     let b = product c.args.quantity c.args.price c.requires.low c.requires.most c.requires.price in
     record { low = rw e b.0; small = rw e (weaker _ b.1) }

@@ -11,8 +11,8 @@ returns c =
     let fa = c.ranges.amount in
     let a = c.args.amount in
     let ws = c.args.weights.now in
-    let v : Ok c.in-ok-whole.whole ≡ verdict a ws (length c.args.out.now) = simp to_z-of_z at c.in-ok-whole.ensures in
-    let o : c.write-rises.new.out ≡ cumulative a ws = c.write-rises.ensures ∙ ap (λ (z : ℤ). cumulative z ws) (to_z-of_z w64 a fa) in
+    let v : Ok c.in_ok-whole.whole ≡ verdict a ws (length c.args.out.now) = simp to_z-of_z at c.in_ok-whole.ensures in
+    let o : c.write_rises.new.out ≡ cumulative a ws = c.write_rises.ensures ∙ ap (λ (z : ℤ). cumulative z ws) (to_z-of_z w64 a fa) in
     record {
       allocated = allocated_ok _ _ _ _ _ (sym v) o;
       first_shares = λ _ k l. rw o (first_shares a ws (admitted a ws _ _ (sym v)).fit.above k l);

@@ -12,5 +12,5 @@ unfolding book_of
 returns c =
     let l = c.args.self.now in
     let h = c.args.hour in
-    ap (λ (s : State). book_over s (set l.lines h c.args.lines)) c.mark-settled.ensures
+    ap (λ (s : State). book_over s (set l.lines h c.args.lines)) c.mark_settled.ensures
     ∙ recorded_over (state_of l.inputs) l.lines h c.args.lines (search rules) (search rules)

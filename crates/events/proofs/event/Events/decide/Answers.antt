@@ -9,11 +9,11 @@ use Rattle.events.specs.Samples.{reading_of}
 use Rattle.events.proofs.Decisions.{reading_refused, reading_taken, few_closed}
 use Rattle.events.proofs.event.Events.decide.Goals as goal
 
-pub returns-in-err-kilowatts : goal.returns-in-err-kilowatts
-returns-in-err-kilowatts c =
-    let e = err_from_is_err_and c.from-residual.result c.from-residual.ensures.1 in
-    let q = sym (c.in-err-kilowatts.ensures ∙ ap (λ (z : List Resource). reading_of (kind_at z c.in-Some.place) c.in-Running-Read.sample) c.as-slice.ensures.value) in
-    reading_refused _ _ _ _ _ _ _ _ _ _ c.in-Running-Read.is-0 c.in-Running-Read.is-1 (sym c.resource-named.ensures.value ∙ c.in-Some.is) _ _ _ q (e.1 ∙ ap Err e.2) refl
+pub returns-in_err-kilowatts : goal.returns-in_err-kilowatts
+returns-in_err-kilowatts c =
+    let e = err_from_is_err_and c.from_residual.result c.from_residual.ensures.1 in
+    let q = sym (c.in_err-kilowatts.ensures ∙ ap (λ (z : List Resource). reading_of (kind_at z c.in-Some.place) c.in-Running-Read.sample) c.as_slice.ensures.value) in
+    reading_refused _ _ _ _ _ _ _ _ _ _ c.in-Running-Read.is-0 c.in-Running-Read.is-1 (sym c.resource_named.ensures.value ∙ c.in-Some.is) _ _ _ q (e.1 ∙ ap Err e.2) refl
 
 pub invariant-of-self : goal.invariant-of-self
 invariant-of-self c =
@@ -22,12 +22,12 @@ invariant-of-self c =
     let start : c.in-Running-Close.start ≤ 1439 = omega (arith, e.runs, ap running_start c.in-Running-Close.is-0) in
     let each = pushed_each c.push.result e.closed c.push.new.self _ c.push.ensures in (
       few_closed c.push.result e.closed c.push.new.self _ few c.push.ensures,
-      (each (λ x. x.start ≤ 1439) no_event start e.starts, (each (λ x. x.end ≤ 1440) no_event c.if-end-gt-MINUTES-PER-DAY.false e.ends, (omega arith, tt))),
+      (each (λ x. x.start ≤ 1439) no_event start e.starts, (each (λ x. x.end ≤ 1440) no_event c.if-end-gt-MINUTES_PER_DAY.false e.ends, (omega arith, tt))),
     )
 
-pub returns-in-ok-kilowatts : goal.returns-in-ok-kilowatts
-returns-in-ok-kilowatts c =
-    let q = sym (c.in-ok-kilowatts.ensures ∙ ap (λ (z : List Resource). reading_of (kind_at z c.in-Some.place) c.in-Running-Read.sample) c.as-slice.ensures.value) in
+pub returns-in_ok-kilowatts : goal.returns-in_ok-kilowatts
+returns-in_ok-kilowatts c =
+    let q = sym (c.in_ok-kilowatts.ensures ∙ ap (λ (z : List Resource). reading_of (kind_at z c.in-Some.place) c.in-Running-Read.sample) c.as_slice.ensures.value) in
     let z = c.enter.ensures in
-    reading_taken _ _ _ _ _ _ _ _ _ _ c.in-Running-Read.is-0 c.in-Running-Read.is-1 (sym c.resource-named.ensures.value ∙ c.in-Some.is) _ _ q
+    reading_taken _ _ _ _ _ _ _ _ _ _ c.in-Running-Read.is-0 c.in-Running-Read.is-1 (sym c.resource_named.ensures.value ∙ c.in-Some.is) _ _ q
     (simp (z.readings, z.state, z.closed))

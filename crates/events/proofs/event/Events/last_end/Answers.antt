@@ -6,12 +6,12 @@ use Rattle.events.proofs.event.Events.last_end.Goals as goal
 
 pub returns-in-Some : goal.returns-in-Some
 returns-in-Some c =
-    let es = c.as-slice.result.now in
+    let es = c.as_slice.result.now in
     let some : 0 < length es = grind (arith, nat_tests, c.in-Some.ensures.item.0) in
-    c.from.ensures ∙ ap (λ e. e.end) c.in-Some.ensures.item.1 ∙ sym (last_end_some es c.in-Some.event.now some) ∙ ap last_end c.as-slice.ensures.value
+    c.from.ensures ∙ ap (λ e. e.end) c.in-Some.ensures.item.1 ∙ sym (last_end_some es c.in-Some.event.now some) ∙ ap last_end c.as_slice.ensures.value
 
 pub returns-in-None : goal.returns-in-None
 returns-in-None c =
-    let es = c.as-slice.result.now in
+    let es = c.as_slice.result.now in
     let none : length es ≤ 0 = grind (arith, nat_tests, c.in-None.ensures.item.0) in
-    sym (last_end_none es none) ∙ ap last_end c.as-slice.ensures.value
+    sym (last_end_none es none) ∙ ap last_end c.as_slice.ensures.value

@@ -6,7 +6,7 @@ use Rattle.inputs.proofs.tables.Tables.enrol.Goals as goal
 pub invariant-of-self : goal.invariant-of-self
 invariant-of-self c =
     let t = c.args.self.now in
-    let none = sym c.place-of.ensures.value ∙ not_found c.place-of.result c.is-some.result c.is-some.ensures c.if-is-some.false in
+    let none = sym c.place_of.ensures.value ∙ not_found c.place_of.result c.is_some.result c.is_some.ensures c.if-is_some.false in
     let more = pushed_grows c.push.result t.members c.push.new.self _ c.push.ensures in (
       members_apart c.push.result t.members c.push.new.self _ c.push.ensures none t.enrolled,
       (t.registered, ((λ k l. omega (arith, t.owners k l)), (t.sums, ((λ k l. t.sellers k (omega arith)), ((λ k l. t.buyers k (omega arith)), tt))))),
@@ -15,7 +15,7 @@ invariant-of-self c =
 pub invariant-of-self-2 : goal.invariant-of-self-2
 invariant-of-self-2 c =
     let t = c.args.self.now in
-    let none = sym c.place-of.ensures.value ∙ not_found c.place-of.result c.is-some.result c.is-some.ensures c.if-is-some.false in
+    let none = sym c.place_of.ensures.value ∙ not_found c.place_of.result c.is_some.result c.is_some.ensures c.if-is_some.false in
     let more = pushed_grows c.push.result t.members c.push.new.self _ c.push.ensures in (
       members_apart c.push.result t.members c.push.new.self _ c.push.ensures none t.enrolled,
       (t.registered, ((λ k l. omega (arith, t.owners k l)), (t.sums, ((λ k l. t.sellers k (omega arith)), ((λ k l. t.buyers k (omega arith)), tt))))),

@@ -9,7 +9,7 @@ use Rattle.inputs.proofs.tables.Tables.register.Goals as goal
 pub invariant-of-self : goal.invariant-of-self
 invariant-of-self c =
     let t = c.args.self.now in
-    let none = sym c.place-of.ensures.value ∙ not_found c.place-of.result c.is-some.result c.is-some.ensures c.if-is-some.false in
+    let none = sym c.place_of.ensures.value ∙ not_found c.place_of.result c.is_some.result c.is_some.ensures c.if-is_some.false in
     let each = pushed_each c.push.result t.resources c.push.new.self _ c.push.ensures in (
       t.enrolled,
       (
@@ -22,12 +22,12 @@ invariant-of-self c =
     )
 
 pub returns-in-default-push : goal.returns-in-default-push
-returns-in-default-push c = grind (arith, nat_tests, c.in-default-push.ensures, c.in-Some.ensures.value, c.in-Some-member-named.is, c.in-Some-member-named.ensures.value)
+returns-in-default-push c = grind (arith, nat_tests, c.in-default-push.ensures, c.in-Some.ensures.value, c.in-Some-member_named.is, c.in-Some-member_named.ensures.value)
 
 pub invariant-of-self-2 : goal.invariant-of-self-2
 invariant-of-self-2 c =
     let t = c.args.self.now in
-    let none = sym c.place-of.ensures.value ∙ not_found c.place-of.result c.is-some.result c.is-some.ensures c.if-is-some.false in
+    let none = sym c.place_of.ensures.value ∙ not_found c.place_of.result c.is_some.result c.is_some.ensures c.if-is_some.false in
     let each = pushed_each c.push.result t.resources c.push.new.self _ c.push.ensures in (
       t.enrolled,
       (

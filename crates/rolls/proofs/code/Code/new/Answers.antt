@@ -5,8 +5,8 @@ use Rattle.rolls.specs.Codes.{all_signs}
 use Rattle.rolls.proofs.Padded.{pad_more, signs_more, signs_stop, before_zeros}
 use Rattle.rolls.proofs.code.Code.new.Goals as goal
 
-pub returns-then-not-is-code-sign : goal.returns-then-not-is-code-sign
-returns-then-not-is-code-sign c =
+pub returns-then-not-is_code_sign : goal.returns-then-not-is_code_sign
+returns-then-not-is_code_sign c =
     let bad : all_signs c.args.text.now ≡ false = search (rules, signs_stop) in
     record { value = grind (arith, nat_tests); spelled = tt }
 

@@ -22,15 +22,15 @@ returns-in-Some-false c =
 
 pub invariant-of-self : goal.invariant-of-self
 invariant-of-self c =
-    push_keeps c.args.self.now c.args.key c.args.kwh c.requires.ranged c.requires.limited c.in-None-true.is-1 (sym c.place-of.ensures.value ∙ c.in-None-true.is-0) c.push.new.self c.push.result c.push.ensures
+    push_keeps c.args.self.now c.args.key c.args.kwh c.requires.ranged c.requires.limited c.in-None-true.is-1 (sym c.place_of.ensures.value ∙ c.in-None-true.is-0) c.push.new.self c.push.result c.push.ensures
 
 pub returns-in-Some : goal.returns-in-Some
 returns-in-Some c =
-    (pushed c.args.self.now c.args.key c.args.kwh c.requires.ranged c.requires.limited c.in-None-true.is-1 (sym c.place-of.ensures.value ∙ c.in-None-true.is-0) c.push.new.self c.in-Some.field-0 c.in-Some.ensures).said
+    (pushed c.args.self.now c.args.key c.args.kwh c.requires.ranged c.requires.limited c.in-None-true.is-1 (sym c.place_of.ensures.value ∙ c.in-None-true.is-0) c.push.new.self c.in-Some.field-0 c.in-Some.ensures).said
 
 pub returns-in-None : goal.returns-in-None
 returns-in-None c = (search (rules, full), same_trades _ c.args.self.now c.in-None.ensures.1)
 
 pub returns-in-None-false : goal.returns-in-None-false
 returns-in-None-false c =
-    (unchanged c.args.self.now c.args.key c.args.kwh (sym c.place-of.ensures.value ∙ c.in-None-false.is-0) c.in-None-false.is-1).said
+    (unchanged c.args.self.now c.args.key c.args.kwh (sym c.place_of.ensures.value ∙ c.in-None-false.is-0) c.in-None-false.is-1).said
