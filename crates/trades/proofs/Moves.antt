@@ -67,7 +67,7 @@ part_one None = omega arith
 part_one (Some t) = omega arith
 
 abbrev Kept : List Trade → Type 0
-Kept ts = Apart (λ t k. same_key t.key k) ts × ((unsound ts ≡ 0) × Unit {0})
+Kept ts = Apart (λ t k. same_key t.key k) ts × (unsound ts ≡ 0)
 
 -- the quantity set under k, with a place for it
 pub record Changed (xs ys : List Trade) (k : TradeKey) (kwh : ℕ) : Type 0 where
@@ -91,7 +91,7 @@ module _ (a : Trades) (ys : List Trade) (k : TradeKey) (o n : Option Trade)
   changed : (kwh : ℕ) → part (λ t. t.kwh) n ≡ kwh → part (λ t. cond (not (sound t)) 1 0) n ≡ 0 → no_place (quantity_at (items a.places)) k kwh ≡ false → Changed (items a.places) ys k kwh
   changed kwh e s free =
       record {
-        kept = (λ j. grind (arith, at_moved (λ _. 1) j, a.apart j, part_one n), (omega (arith, moved (λ t. cond (not (sound t)) 1 0), a.sound), tt));
+        kept = (λ j. grind (arith, at_moved (λ _. 1) j, a.apart j, part_one n), omega (arith, moved (λ t. cond (not (sound t)) 1 0), a.sound));
         said = (free, λ i j. (rw e at (at_moved (λ t. t.kwh) j)) i);
       }
 
@@ -134,5 +134,5 @@ module _ (a : Trades) (k : TradeKey) (kwh : ℕ) where
           changed a (items r) k None (Some new) tt refl (found_none xs k e) (λ f. omega (arith, ap (sum_by f) h.2, sum_by_push f xs new)) kwh refl new_sound (grind (arith, nat_tests))
 
       pub push_keeps : (o : Option ℕ) → MatchOption o ((length xs ≡ 64) × (r ≡ a.places)) (λ i. (i ≡ length xs) × (i < 64) × (items r ≡ xs ++ new ∷ [])) → Kept (items r)
-      push_keeps None h = subst (λ (s : Roll Trade 64). Kept (items s)) (sym h.1) (a.apart, (a.sound, tt))
+      push_keeps None h = subst (λ (s : Roll Trade 64). Kept (items s)) (sym h.1) (a.apart, a.sound)
       push_keeps (Some i) h = (pushed i h).kept

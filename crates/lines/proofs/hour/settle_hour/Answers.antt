@@ -9,11 +9,11 @@ use Rattle.lines.proofs.Settling.{payees_length}
 use Rattle.lines.proofs.Lines.{refused_load, refused_payee, accepted, lines_are, refund_allocable, total_is}
 use Rattle.lines.proofs.hour.settle_hour.Goals as goal
 
-pub returns-in-default : goal.returns-in-default
-returns-in-default g c = (refused_load (g.R.AllocationRule.shares c.args.rule.now) c.args.tables.now c.args.hour c.in-default.ensures, refl)
+pub returns-in_default : goal.returns-in_default
+returns-in_default g c = (refused_load (g.R.AllocationRule.shares c.args.rule.now) c.args.tables.now c.args.hour c.in_default.ensures, refl)
 
-pub returns-in-default-pay_refunds : goal.returns-in-default-pay_refunds
-returns-in-default-pay_refunds g c = (refused_payee (g.R.AllocationRule.shares c.args.rule.now) c.args.tables.now c.args.hour c.in-default-pay_refunds.ensures, refl)
+pub returns-in_default-pay_refunds : goal.returns-in_default-pay_refunds
+returns-in_default-pay_refunds g c = (refused_payee (g.R.AllocationRule.shares c.args.rule.now) c.args.tables.now c.args.hour c.in_default-pay_refunds.ensures, refl)
 
 pub overflow_add-result : goal.overflow_add-result
 overflow_add-result g c =

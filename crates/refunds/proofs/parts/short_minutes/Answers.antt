@@ -16,8 +16,8 @@ use Rattle.refunds.proofs.parts.short_minutes.Goals.{then-shortfalls-place-gt0, 
 pub bounds-shortfalls-resource : goal.bounds-shortfalls-resource
 bounds-shortfalls-resource c = omega (arith, (bounded_day c.args.tables.now).few_resources)
 
-pub offset-bounds-shortfalls-resource : goal.offset-bounds-shortfalls-resource
-offset-bounds-shortfalls-resource c = omega (arith, (bounded_day c.args.tables.now).few_resources)
+pub offset_bounds-shortfalls-resource : goal.offset_bounds-shortfalls-resource
+offset_bounds-shortfalls-resource c = omega (arith, (bounded_day c.args.tables.now).few_resources)
 
 pub overflow_add-minutes : goal.overflow_add-minutes
 overflow_add-minutes c =

@@ -13,8 +13,10 @@ pub shortfalls-requires : goal.shortfalls-requires
 shortfalls-requires c =
     starts_early (day c.args.tables.now) c.closed_events-events.result.now c.closed_events-events.ensures (bounded_day c.args.tables.now) c.loop-place.place c.loop-place-test.true
 
-pub invariant-of-result : goal.invariant-of-result
-invariant-of-result c = (c.loop-place.invariant.1.wide, tt)
+pub invariant_of-result : goal.invariant_of-result
+invariant_of-result c = record {
+      wide = c.loop-place.invariant.1.wide;
+    }
 
 pub loop-place-init : goal.loop-place-init
 loop-place-init c = (refl, written_none _ _)

@@ -4,8 +4,10 @@ use Rattle.daybook.specs.Books.{book_of, book_over}
 use Rattle.daybook.proofs.Books.{rows_wide, recorded_over}
 use Rattle.daybook.proofs.ledger.Ledger.record.Goals as goal
 
-pub invariant-of-self : goal.invariant-of-self
-invariant-of-self c = (rows_wide c.args.self.now.lines c.args.hour 16 24 c.args.lines (search rules) (search rules) c.args.self.now.wide, tt)
+pub invariant_of-self : goal.invariant_of-self
+invariant_of-self c = record {
+      wide = rows_wide c.args.self.now.lines c.args.hour 16 24 c.args.lines (search rules) (search rules) c.args.self.now.wide;
+    }
 
 pub returns : goal.returns
 unfolding book_of

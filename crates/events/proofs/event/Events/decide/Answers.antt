@@ -15,15 +15,18 @@ returns-in_err-kilowatts c =
     let q = sym (c.in_err-kilowatts.ensures ∙ ap (λ (z : List Resource). reading_of (kind_at z c.in-Some.place) c.in-Running-Read.sample) c.as_slice.ensures.value) in
     reading_refused _ _ _ _ _ _ _ _ _ _ c.in-Running-Read.is-0 c.in-Running-Read.is-1 (sym c.resource_named.ensures.value ∙ c.in-Some.is) _ _ _ q (e.1 ∙ ap Err e.2) refl
 
-pub invariant-of-self : goal.invariant-of-self
-invariant-of-self c =
+pub invariant_of-self : goal.invariant_of-self
+invariant_of-self c =
     let e = c.args.self.now in
     let few : length (items e.closed) ≤ 4 = omega (arith, e.few) in
     let start : c.in-Running-Close.start ≤ 1439 = omega (arith, e.runs, ap running_start c.in-Running-Close.is-0) in
-    let each = pushed_each c.push.result e.closed c.push.new.self _ c.push.ensures in (
-      few_closed c.push.result e.closed c.push.new.self _ few c.push.ensures,
-      (each (λ x. x.start ≤ 1439) no_event start e.starts, (each (λ x. x.end ≤ 1440) no_event c.if-end-gt-MINUTES_PER_DAY.false e.ends, (omega arith, tt))),
-    )
+    let each = pushed_each c.push.result e.closed c.push.new.self _ c.push.ensures in
+    record {
+      few = few_closed c.push.result e.closed c.push.new.self _ few c.push.ensures;
+      starts = each (λ x. x.start ≤ 1439) no_event start e.starts;
+      ends = each (λ x. x.end ≤ 1440) no_event c.if-end-gt-MINUTES_PER_DAY.false e.ends;
+      runs = omega arith;
+    }
 
 pub returns-in_ok-kilowatts : goal.returns-in_ok-kilowatts
 returns-in_ok-kilowatts c =

@@ -4,8 +4,8 @@ use Rattle.events.specs.declared.fault.BookFault.TheVariants.{NoSuchMember}
 use Rattle.inputs.proofs.Finds.{only_one}
 use Rattle.inputs.proofs.tables.Tables.member_place.Goals as goal
 
-pub returns-in-default : goal.returns-in-default
-returns-in-default c =
+pub returns-in_default : goal.returns-in_default
+returns-in_default c =
     let t = c.args.self.now in
     record { value = search rules; only = only_one (λ m. m) (items t.members) t.enrolled c.args.code.now NoSuchMember _ (search rules) }
 

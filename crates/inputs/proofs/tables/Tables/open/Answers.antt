@@ -2,5 +2,12 @@ use Rattle.std.proofs.Common.{ap, rules}
 use Rattle.trades.specs.Trades.{Traded}
 use Rattle.inputs.proofs.tables.Tables.open.Goals as goal
 
-pub invariant-of-result : goal.invariant-of-result
-invariant-of-result c = (search rules, (search rules, (search rules, (search rules, ((λ k _. ap (λ (q : Traded). q k) c.none.ensures), ((λ k _. ap (λ (q : Traded). q k) c.none.ensures), tt))))))
+pub invariant_of-result : goal.invariant_of-result
+invariant_of-result c = record {
+      enrolled = search rules;
+      registered = search rules;
+      owners = search rules;
+      sums = search rules;
+      sellers = λ k _. ap (λ (q : Traded). q k) c.none.ensures;
+      buyers = λ k _. ap (λ (q : Traded). q k) c.none.ensures;
+    }

@@ -4,25 +4,28 @@ use Rattle.trades.proofs.Moves.{full, unchanged, removed, replaced, pushed, push
 use Rattle.trades.proofs.Wholes.{same_trades}
 use Rattle.trades.proofs.standing.Trades.set.Goals as goal
 
-pub invariant-of-self-in-Some-true : goal.invariant-of-self-in-Some-true
-invariant-of-self-in-Some-true c =
-    (replaced c.args.self.now c.args.key c.args.kwh c.requires.ranged c.requires.limited c.in-Some-true.is-1 (items c.put.new.self) c.in-Some-true.place (sym c.in-Some-true.ensures.value) c.put.ensures).kept
+pub invariant_of-self-in-Some-true : goal.invariant_of-self-in-Some-true
+invariant_of-self-in-Some-true c =
+    let kept = (replaced c.args.self.now c.args.key c.args.kwh c.requires.ranged c.requires.limited c.in-Some-true.is-1 (items c.put.new.self) c.in-Some-true.place (sym c.in-Some-true.ensures.value) c.put.ensures).kept in
+    record { apart = kept.0; sound = kept.1 }
 
 pub returns-in-Some-true : goal.returns-in-Some-true
 returns-in-Some-true c =
     (replaced c.args.self.now c.args.key c.args.kwh c.requires.ranged c.requires.limited c.in-Some-true.is-1 (items c.put.new.self) c.in-Some-true.place (sym c.in-Some-true.ensures.value) c.put.ensures).said
 
-pub invariant-of-self-in-Some-false : goal.invariant-of-self-in-Some-false
-invariant-of-self-in-Some-false c =
-    (removed c.args.self.now c.args.key c.args.kwh (items c.remove.new.self) c.in-Some-false.place (sym c.in-Some-false.ensures.value) c.in-Some-false.is-1 c.remove.ensures.sums).kept
+pub invariant_of-self-in-Some-false : goal.invariant_of-self-in-Some-false
+invariant_of-self-in-Some-false c =
+    let kept = (removed c.args.self.now c.args.key c.args.kwh (items c.remove.new.self) c.in-Some-false.place (sym c.in-Some-false.ensures.value) c.in-Some-false.is-1 c.remove.ensures.sums).kept in
+    record { apart = kept.0; sound = kept.1 }
 
 pub returns-in-Some-false : goal.returns-in-Some-false
 returns-in-Some-false c =
     (removed c.args.self.now c.args.key c.args.kwh (items c.remove.new.self) c.in-Some-false.place (sym c.in-Some-false.ensures.value) c.in-Some-false.is-1 c.remove.ensures.sums).said
 
-pub invariant-of-self : goal.invariant-of-self
-invariant-of-self c =
-    push_keeps c.args.self.now c.args.key c.args.kwh c.requires.ranged c.requires.limited c.in-None-true.is-1 (sym c.place_of.ensures.value ∙ c.in-None-true.is-0) c.push.new.self c.push.result c.push.ensures
+pub invariant_of-self : goal.invariant_of-self
+invariant_of-self c =
+    let kept = push_keeps c.args.self.now c.args.key c.args.kwh c.requires.ranged c.requires.limited c.in-None-true.is-1 (sym c.place_of.ensures.value ∙ c.in-None-true.is-0) c.push.new.self c.push.result c.push.ensures in
+    record { apart = kept.0; sound = kept.1 }
 
 pub returns-in-Some : goal.returns-in-Some
 returns-in-Some c =
