@@ -9,10 +9,10 @@ use Rattle.events.specs.Samples.{reading_of}
 use Rattle.events.proofs.Decisions.{reading_refused, reading_taken, few_closed}
 use Rattle.events.proofs.event.Events.decide.Goals as goal
 
-pub returns-in_err-kilowatts : goal.returns-in_err-kilowatts
-returns-in_err-kilowatts c =
+pub returns-in_err-kilowatts-in-Running-Read : goal.returns-in_err-kilowatts-in-Running-Read
+returns-in_err-kilowatts-in-Running-Read c =
     let e = err_from_is_err_and c.from_residual.result c.from_residual.ensures.1 in
-    let q = sym (c.in_err-kilowatts.ensures ∙ ap (λ (z : List Resource). reading_of (kind_at z c.in-Some.place) c.in-Running-Read.sample) c.as_slice.ensures.value) in
+    let q = sym (c.in_err-kilowatts-in-Running-Read.ensures ∙ ap (λ (z : List Resource). reading_of (kind_at z c.in-Some.place) c.in-Running-Read.sample) c.as_slice.ensures.value) in
     reading_refused _ _ _ _ _ _ _ _ _ _ c.in-Running-Read.is-0 c.in-Running-Read.is-1 (sym c.resource_named.ensures.value ∙ c.in-Some.is) _ _ _ q (e.1 ∙ ap Err e.2) refl
 
 pub invariant_of-self : goal.invariant_of-self
@@ -28,9 +28,9 @@ invariant_of-self c =
       runs = omega arith;
     }
 
-pub returns-in_ok-kilowatts : goal.returns-in_ok-kilowatts
-returns-in_ok-kilowatts c =
-    let q = sym (c.in_ok-kilowatts.ensures ∙ ap (λ (z : List Resource). reading_of (kind_at z c.in-Some.place) c.in-Running-Read.sample) c.as_slice.ensures.value) in
+pub returns-in_ok-kilowatts-in-Running-Read : goal.returns-in_ok-kilowatts-in-Running-Read
+returns-in_ok-kilowatts-in-Running-Read c =
+    let q = sym (c.in_ok-kilowatts-in-Running-Read.ensures ∙ ap (λ (z : List Resource). reading_of (kind_at z c.in-Some.place) c.in-Running-Read.sample) c.as_slice.ensures.value) in
     let z = c.enter.ensures in
     reading_taken _ _ _ _ _ _ _ _ _ _ c.in-Running-Read.is-0 c.in-Running-Read.is-1 (sym c.resource_named.ensures.value ∙ c.in-Some.is) _ _ q
     (simp (z.readings, z.state, z.closed))
