@@ -1,5 +1,5 @@
 -- Assignments by hour and resource.
-use Rattle.std.specs.Prelude.{ℕ, ◌≤◌, List, [], set, slice_index_or, slice_set}
+use Rattle.std.specs.Prelude.{ℕ, ◌≤◌, List, [], slice_index_or, slice_set}
 use Rattle.hours.specs.declared.assignment.Assignment.{Assignment}
 use Rattle.hours.specs.declared.assignment.Assignment.TheVariants.{Unassigned, TierOne, SelfScheduled, PoolScheduled}
 

@@ -1,5 +1,5 @@
 -- What is entered for an hour.
-use Rattle.std.specs.Prelude.{ℕ, List, set, slice_set}
+use Rattle.std.specs.Prelude.{ℕ, List, slice_set}
 use Rattle.hours.specs.declared.hour.Hour.{Hour}
 use Rattle.hours.specs.Hours.{hour_at}
 

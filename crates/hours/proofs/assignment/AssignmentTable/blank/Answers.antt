@@ -11,8 +11,8 @@ alike f n a p h r l k = of_alike (λ row. f (get_or row r Unassigned) ≤ n) 24 
 
 pub invariant_of-result : goal.invariant_of-result
 invariant_of-result c = record {
-      wide = of_alike (λ row. length row ≡ 16) 24 _ [] refl;
-      energy = alike kwh_of 500000 _ (lit≤ tt);
-      offers = alike offer_of 400000 _ (lit≤ tt);
-      costs = alike costs_of 300000000 _ (lit≤ tt);
-    }
+  wide = of_alike (λ row. length row ≡ 16) 24 _ [] refl;
+  energy = alike kwh_of 500000 _ (lit≤ tt);
+  offers = alike offer_of 400000 _ (lit≤ tt);
+  costs = alike costs_of 300000000 _ (lit≤ tt);
+}

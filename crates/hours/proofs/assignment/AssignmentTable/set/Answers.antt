@@ -1,4 +1,4 @@
-use Rattle.std.proofs.Common.{◌≡◌, ◌<◌, ◌≤◌, [], length, get_or, ◌∙◌, rules}
+use Rattle.std.proofs.Common.{◌≡◌, [], length, get_or, ◌∙◌, rules}
 use Rattle.std.proofs.lemmas.List.{length-set}
 use Rattle.hours.specs.Assignments.{kwh_of, offer_of, costs_of}
 use Rattle.hours.proofs.Cells.{of_set}
