@@ -1,5 +1,5 @@
 -- Products and whole quotients of integers.
-use Rattle.std.specs.Prelude.{◌≡◌, ℕ, zero, suc, ◌+◌, ◌*◌, ◌<◌, ◌≤◌, ℤ, pos, negsuc, ◌+ℤ◌, ◌-ℤ◌, ◌*ℤ◌, neg_ℤ, ◌≤ℤ◌, ◌<ℤ◌, FitsSigned, unsigned_abs, refl}
+use Rattle.std.specs.Prelude.{◌≡◌, ℕ, zero, suc, ◌*◌, ◌≤◌, ℤ, pos, negsuc, ◌+ℤ◌, ◌-ℤ◌, ◌*ℤ◌, neg_ℤ, ◌≤ℤ◌, ◌<ℤ◌, FitsSigned, unsigned_abs, refl}
 use Rattle.std.proofs.Common.{ap, ◌∙◌, mul-le-mul_right, mul-le-mul_left, arith}
 use borrow.Author.Differences.{up, down, sum_is_lem, product_is, lt_out}
 use Rattle.std.proofs.lemmas.Int.{ints, by_lt_z}

@@ -8,7 +8,7 @@ loop-value-preserved c =
     let others = c.in-Some.others.now in
     let i = c.loop-value.value-index in
     let m = take_more others i (pos 0) c.loop-value-test.true in
-    let j = flat_map_more next_number (string_bytes c.in-ok-text.text) (take i others) (get_or others i (pos 0)) in
+    let j = flat_map_more next_number (string_bytes c.in_ok-text.text) (take i others) (get_or others i (pos 0)) in
     grind arith
 
 pub returns : goal.returns

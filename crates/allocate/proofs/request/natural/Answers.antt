@@ -4,18 +4,18 @@ use Rattle.std.proofs.lemmas.Bool.Decides.{nat_tests}
 use Rattle.allocate.proofs.Digits.{read_at, room}
 use Rattle.allocate.proofs.request.natural.Goals as goal
 
-pub returns-then-not-is-ascii-digit : goal.returns-then-not-is-ascii-digit
-returns-then-not-is-ascii-digit c = grind (arith, nat_tests, read_at)
+pub returns-then-not-is_ascii_digit : goal.returns-then-not-is_ascii_digit
+returns-then-not-is_ascii_digit c = grind (arith, nat_tests, read_at)
 
-pub overflow-mul-value : goal.overflow-mul-value
-overflow-mul-value c = let r = room _ _ _ c.loop-b-test.true c.loop-b.invariant.1 (omega arith) c.if-not-is-ascii-digit.ensures.value in omega arith
+pub overflow_mul-value : goal.overflow_mul-value
+overflow_mul-value c = let r = room _ _ _ c.loop-b-test.true c.loop-b.invariant.1 (omega arith) c.if-not-is_ascii_digit.ensures.value in omega arith
 
-pub overflow-add-value : goal.overflow-add-value
-overflow-add-value c = let r = room _ _ _ c.loop-b-test.true c.loop-b.invariant.1 (omega arith) c.if-not-is-ascii-digit.ensures.value in omega arith
+pub overflow_add-value : goal.overflow_add-value
+overflow_add-value c = let r = room _ _ _ c.loop-b-test.true c.loop-b.invariant.1 (omega arith) c.if-not-is_ascii_digit.ensures.value in omega arith
 
 pub loop-b-preserved : goal.loop-b-preserved
 loop-b-preserved c =
-    let r = room _ _ _ c.loop-b-test.true c.loop-b.invariant.1 (omega arith) c.if-not-is-ascii-digit.ensures.value in
+    let r = room _ _ _ c.loop-b-test.true c.loop-b.invariant.1 (omega arith) c.if-not-is_ascii_digit.ensures.value in
     (grind (arith, nat_tests, read_at), r.0)
 
 pub returns : goal.returns

@@ -22,8 +22,8 @@ loop-i-init c =
     let p = admitted _ _ _ _ c.requires in
     simp to_z-of_z (record { sum_on = refl; figure_on = figure_none c.args.amount c.args.weights.now p.fit.above; written = λ k l. absurd (omega arith) }, omega arith)
 
-pub overflow-add-sum : goal.overflow-add-sum
-overflow-add-sum c =
+pub overflow_add-sum : goal.overflow_add-sum
+overflow_add-sum c =
     let p = admitted _ _ _ _ c.requires in
     let h = on c.args.weights.now c.loop-i.i _ c.loop-i-test.true c.loop-i.invariant.0.sum_on in
     let l = p.fit.light in

@@ -8,24 +8,24 @@ use Rattle.allocation.specs.Remainders.{Lowering, lower_turn, lowering_size, fro
 use Rattle.allocation.proofs.remainder.take_all_down.Goals as goal
 
 -- the loop's facts after this turn
-turned : (c : goal.After-struct-told-in-loop-i·1) (left : ℤ)
+turned : (c : goal.After-struct_told-in-loop-i-1) (left : ℤ)
     → Lowering (to_z w64 (of_z w64 c.args.amount)) (to_z w64 (of_z w64 c.args.whole)) c.args.weights.now c.loop-i.i left c.loop-i.shares c.loop-i.keys
     → Lowering (to_z w64 (of_z w64 c.args.amount)) (to_z w64 (of_z w64 c.args.whole)) c.args.weights.now (c.loop-i.i + 1)
-    (left -ℤ to_z w64 (of_z w64 c.take-down-share.result.0))
-    (set c.loop-i.shares c.loop-i.i (to_z w64 (of_z w64 c.take-down-share.result.0)))
-    (set c.loop-i.keys c.loop-i.i (to_z w64 (of_z w64 c.take-down-share.result.1)))
+    (left -ℤ to_z w64 (of_z w64 c.take_down-share.result.0))
+    (set c.loop-i.shares c.loop-i.i (to_z w64 (of_z w64 c.take_down-share.result.0)))
+    (set c.loop-i.keys c.loop-i.i (to_z w64 (of_z w64 c.take_down-share.result.1)))
 turned c left inv =
     let p = admitted _ _ _ _ c.requires.pass in
     let ws = c.args.weights.now in
     let x = get_or ws c.loop-i.i (pos 0) in
     let fx : SFits w64 x = search rules in
-    let fr : SFits w64 c.take-down-share.result.0 = search rules in
-    let fk : SFits w64 c.take-down-share.result.1 = search rules in
+    let fr : SFits w64 c.take_down-share.result.0 = search rules in
+    let fk : SFits w64 c.take_down-share.result.1 = search rules in
     lower_turn _ _ ws c.loop-i.shares c.loop-i.keys c.loop-i.i _ _ (to_z w64 (of_z w64 x)) _ _ c.loop-i-test.true (omega arith) (omega arith) (to_z-of_z w64 x fx)
-    (to_z-of_z w64 _ fr ∙ c.take-down-share.ensures.share) (to_z-of_z w64 _ fk ∙ c.take-down-share.ensures.drop) refl inv
+    (to_z-of_z w64 _ fr ∙ c.take_down-share.ensures.share) (to_z-of_z w64 _ fk ∙ c.take_down-share.ensures.drop) refl inv
 
-pub take-down-share-requires : goal.take-down-share-requires
-take-down-share-requires c =
+pub take_down-share-requires : goal.take_down-share-requires
+take_down-share-requires c =
     let p = admitted _ _ _ _ c.requires.pass in
     let fa = c.ranges.amount in
     let fw = c.ranges.whole in
@@ -40,8 +40,8 @@ pub bounds-shares-i : goal.bounds-shares-i
 bounds-shares-i c = let p = admitted _ _ _ _ c.requires.pass in omega arith
 
 -- what is left after this turn is small
-pub overflow-sub-left : goal.overflow-sub-left
-overflow-sub-left c =
+pub overflow_sub-left : goal.overflow_sub-left
+overflow_sub-left c =
     let p = admitted _ _ _ _ c.requires.pass in
     let a = to_z-of_z w64 c.args.amount c.ranges.amount in
     let w = to_z-of_z w64 c.args.whole c.ranges.whole in
@@ -49,7 +49,7 @@ overflow-sub-left c =
     omega (arith, ints)
 
 pub loop-i-preserved : goal.loop-i-preserved
-loop-i-preserved c = rw (to_z-of_z w64 _ (overflow-sub-left c)) (turned c _ c.loop-i.invariant)
+loop-i-preserved c = rw (to_z-of_z w64 _ (overflow_sub-left c)) (turned c _ c.loop-i.invariant)
 
 pub returns : goal.returns
 returns c =

@@ -25,7 +25,7 @@ returns c =
     let q : c.div_euclid.result ≡ floor (a *ℤ b) w = c.div_euclid.ensures ∙ ap (λ (n : ℤ). int_div_euclid n (to_z w64 (of_z w64 w))) p ∙ ap (int_div_euclid (a *ℤ b)) e in
     let r : c.rem_euclid.result ≡ int_rem_euclid (a *ℤ b) w = c.rem_euclid.ensures.value ∙ ap (λ (n : ℤ). int_rem_euclid n (to_z w64 (of_z w64 w))) p ∙ ap (int_rem_euclid (a *ℤ b)) e in
     let f : SFits w64 c.div_euclid.result = record { sfits = c.div_euclid.type_inv } in
-    let g : SFits w64 c.rem_euclid.result = record { sfits = c.rem_euclid.type-inv } in
+    let g : SFits w64 c.rem_euclid.result = record { sfits = c.rem_euclid.type_inv } in
     let z = floor_size (a *ℤ b) w c.requires.above in
     let t = abs_times a b in
     let q' = to_z-of_z w64 _ f ∙ q in

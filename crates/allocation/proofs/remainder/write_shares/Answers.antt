@@ -5,8 +5,8 @@ use Rattle.allocation.specs.Verdicts.{admitted}
 use Rattle.allocation.specs.Remainders.{serving_starts, servable, serving_on, serving_ends}
 use Rattle.allocation.proofs.remainder.write_shares.Goals as goal
 
-pub slice-bounds-room-end : goal.slice-bounds-room-end
-slice-bounds-room-end c = let p = admitted _ _ _ _ c.requires in omega arith
+pub slice_bounds-room-end : goal.slice_bounds-room-end
+slice_bounds-room-end c = let p = admitted _ _ _ _ c.requires in omega arith
 
 pub loop-left-init : goal.loop-left-init
 loop-left-init c =
@@ -16,8 +16,8 @@ loop-left-init c =
     let o = c.take_all_down-left.ensures in
     serving_starts _ _ _ _ _ _ p.fit.above (e ∙ p.whole) o.shares o.keys (to_z-of_z w64 _ fr ∙ o.left)
 
-pub hand-out-one-requires : goal.hand-out-one-requires
-hand-out-one-requires c =
+pub hand_out_one-requires : goal.hand_out_one-requires
+hand_out_one-requires c =
     let p = admitted _ _ _ _ c.requires in
     let a = to_z-of_z w64 c.args.amount c.ranges.amount in
     let s = servable _ _ _ _ _ (rw a p.fit) c.loop-left.invariant in

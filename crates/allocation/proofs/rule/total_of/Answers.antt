@@ -4,8 +4,8 @@ use Rattle.std.proofs.lemmas.List.{at_drop_more, at_drop_all}
 use Rattle.allocation.specs.Weights.{total, magnitude}
 use Rattle.allocation.proofs.rule.total_of.Goals as goal
 
-pub overflow-add-sum : goal.overflow-add-sum
-overflow-add-sum c =
+pub overflow_add-sum : goal.overflow_add-sum
+overflow_add-sum c =
     let xs = c.args.weights.now in
     let i = c.loop-w.w-index in
     let lt : i < length xs = omega arith in
