@@ -1,29 +1,28 @@
 -- No allocation of an hour that can be settled is refused.
-use Rattle.std.proofs.Common.{◌≡◌, ℕ, zero, suc, ◌+◌, ◌-◌, ◌*◌, ◌<◌, ◌≤◌, Bool, true, false, cond, ◌&&◌, ◌||◌, eqb, ◌⊎◌, List, [], ◌∷◌, map, length, get_or, ℤ, pos, negsuc, ◌+ℤ◌, ◌-ℤ◌, ◌*ℤ◌, nat_abs, ◌≤ℤ◌, ◌<ℤ◌, filter, sym, refl, ap, ◌∙◌, subst, inl, inr, arith, lit≤}
+use Rattle.std.proofs.Common.{◌≡◌, ℕ, ◌*◌, ◌<◌, ◌≤◌, Bool, true, false, cond, ◌&&◌, eqb, List, map, length, ℤ, pos, ◌+ℤ◌, ◌-ℤ◌, ◌*ℤ◌, nat_abs, ◌≤ℤ◌, ◌<ℤ◌, sym, refl, ap, ◌∙◌, subst, inl, inr, arith, lit≤}
 use lib.Signed.{lt_z}
 use Rattle.std.specs.Int.{int_max}
-use Rattle.std.specs.List.{range_with_len, AllByRecursion as All}
+use Rattle.std.specs.List.{AllByRecursion as All}
 use Rattle.std.proofs.lemmas.Int.{ints, clamps}
 use Rattle.std.proofs.lemmas.Bool.Decides.{nat_tests}
 use Rattle.std.proofs.lemmas.List.FromFn.{length-range_with_len, length-map-range_with_len, fill_by_all}
-use Rattle.allocation.specs.Weights.{total, magnitude}
 use Rattle.allocation.specs.Rounding.{half_up}
 use Rattle.allocation.specs.Refusals.{Admissible}
 use Rattle.hours.specs.declared.hour.Hour.{Hour}
 use Rattle.hours.specs.declared.assignment.Assignment.{Assignment}
 use Rattle.hours.specs.declared.assignment.Assignment.TheVariants.{Unassigned, TierOne, SelfScheduled, PoolScheduled}
 use Rattle.hours.specs.Assignments.{kwh_of, Small}
-use Rattle.settlement.specs.Sums.{sum, largest, at, is_zero, all_zero, Meaning, allocated}
+use Rattle.settlement.specs.Sums.{sum, largest, at, is_zero, all_zero, Meaning}
 use Rattle.settlement.specs.Days.{Day, members, resources, owned, assignment, is_tier_one, assigned, load, Sales}
 use Rattle.settlement.specs.Shortfalls.{shortfall, refund_part}
 use Rattle.settlement.specs.Settlement.{opportunity_cost, total_assigned, counted_here, delivered, delivered_tier_one, total_load, clearing_credit_of, opportunity_cost_credit_of, total_clearing, total_opportunity_cost, net_sales, own, obligations, total_refund, is_refunding, adjusted_obligation_of, adjusted_obligations, purchase, buyers, refund_weight, payees, unsettleable}
-use Rattle.settlement.specs.Laws.{Lawful, Allocable, NoneRefused, BoundedDay, Bounded}
+use Rattle.settlement.specs.Laws.{Lawful, Allocable, NoneRefused, Bounded}
 use Rattle.settlement.proofs.Sums.{sum_plus, sum_swap, sum_above, sum_below, sum_scaled, all_counting}
 use Rattle.settlement.proofs.Shares.{allocated_length}
-use Rattle.settlement.proofs.Balances.{allocated_all, obligations_length}
-use Rattle.settlement.proofs.Obligations.{total_adjusted, at_members}
+use Rattle.settlement.proofs.Balances.{allocated_all}
+use Rattle.settlement.proofs.Obligations.{total_adjusted}
 use Rattle.settlement.proofs.Bounds.{zero_or_above, product_above, product_left, magnitude_le, at_above, largest_above, thousand_below, thousand_above, admissible, share_above, share_part, one_le, not_all_zero, above_test, not_both}
-use Rattle.settlement.proofs.Refunds.{everywhere, floored_above, floored_below, size_of, all_owned, assigned_small, all_shortfalls_accepted, refunds_accepted, part_bounds}
+use Rattle.settlement.proofs.Refunds.{everywhere, floored_above, floored_below, assigned_small, all_shortfalls_accepted, refunds_accepted, part_bounds}
 
 -- ---- credits of a resource
 

@@ -1,13 +1,12 @@
 -- Credits and charges of an hour balance.
-use Rattle.std.proofs.Common.{◌≡◌, ℕ, ◌<◌, ◌≤◌, cond, eqb, List, [], ◌∷◌, map, length, ℤ, pos, ◌+ℤ◌, ◌-ℤ◌, sym, refl, ap, ◌∙◌, arith}
-use Rattle.std.specs.List.{range_with_len, AllByRecursion as All}
+use Rattle.std.proofs.Common.{◌≡◌, ℕ, ◌<◌, cond, List, map, length, ℤ, pos, ◌-ℤ◌, ◌∙◌, arith}
 use Rattle.std.proofs.lemmas.Int.{ints}
 use Rattle.std.proofs.lemmas.List.FromFn.{length-map-range_with_len}
 use Rattle.hours.specs.declared.hour.Hour.{Hour}
 use Rattle.settlement.specs.Sums.{sum, at, Meaning, allocated, all_zero}
 use Rattle.settlement.specs.Days.{Day, members, resources, resource, load, Sales}
 use Rattle.settlement.specs.Shortfalls.{refund_part}
-use Rattle.settlement.specs.Settlement.{line, own, clearing_credit_of, opportunity_cost_credit_of, total_clearing, total_opportunity_cost, total_refund, total_assigned, obligations, adjusted_obligation_of, adjusted_obligations, purchase, buyers, refund_weight, payees, clearing_charges, opportunity_cost_charges, refunds_paid}
+use Rattle.settlement.specs.Settlement.{line, own, clearing_credit_of, opportunity_cost_credit_of, total_clearing, total_opportunity_cost, total_refund, obligations, adjusted_obligation_of, adjusted_obligations, purchase, buyers, refund_weight, payees, clearing_charges, opportunity_cost_charges, refunds_paid}
 use Rattle.settlement.specs.Laws.{Lawful, Allocable, NoneRefused, Balanced}
 use Rattle.settlement.proofs.Sums.{sum_minus, sum_owned, sum_at, all_counting}
 use Rattle.settlement.proofs.Shares.{allocated_total, allocated_length}

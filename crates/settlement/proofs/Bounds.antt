@@ -1,19 +1,18 @@
 -- Bounds of sums, of largest values and of shares.
-use Rattle.std.proofs.Common.{◌≡◌, ℕ, zero, suc, ◌+◌, ◌-◌, ◌*◌, ◌<◌, ◌≤◌, min, max, Bool, true, false, cond, ◌&&◌, ◌||◌, T, eqb, ◌⊎◌, List, [], ◌∷◌, map, length, get_or, ℤ, pos, negsuc, ◌+ℤ◌, ◌-ℤ◌, ◌*ℤ◌, nat_abs, ◌≤ℤ◌, ◌<ℤ◌, filter, sym, refl, ap, ◌∙◌, inl, inr, mul-le-mul_right, mul-le-mul_left, arith}
-use borrow.Author.Differences.{up, down, lt_out, le_out}
+use Rattle.std.proofs.Common.{◌≡◌, ℕ, zero, suc, ◌+◌, ◌*◌, ◌<◌, ◌≤◌, Bool, true, false, cond, ◌&&◌, ◌||◌, ◌⊎◌, List, [], ◌∷◌, map, length, ℤ, pos, negsuc, ◌+ℤ◌, ◌*ℤ◌, nat_abs, ◌≤ℤ◌, ◌<ℤ◌, filter, sym, refl, ap, ◌∙◌, inl, inr, mul-le-mul_right, mul-le-mul_left, arith}
+use borrow.Author.Differences.{le_out}
 use lib.IntN.{*ℤ_comm}
 use lib.Signed.{lt_z}
 use Rattle.std.specs.Int.{int_max}
 use Rattle.std.specs.List.{range_with_len, AllByRecursion as All}
 use Rattle.std.proofs.lemmas.Int.{ints, clamps, by_lt_z}
-use Rattle.std.proofs.lemmas.Bool.Decides.{nat_tests}
 use Rattle.std.proofs.ByRecursion.{All-weaker}
 use Rattle.allocation.specs.Weights.{total, magnitude}
 use Rattle.allocation.specs.Rounding.{half_up}
 use Rattle.allocation.specs.Refusals.{Admissible}
-use Rattle.allocation.specs.RoundingLemmas.{Near, half_up_low, half_up_high}
+use Rattle.allocation.specs.RoundingLemmas.{half_up_low, half_up_high}
 use Rattle.allocation.specs.Products.{next_multiple}
-use Rattle.settlement.specs.Sums.{sum, largest, at_least_zero, is_zero, all_zero, at, Meaning, allocated}
+use Rattle.settlement.specs.Sums.{sum, largest, is_zero, all_zero, at, Meaning, allocated}
 use Rattle.settlement.specs.Laws.{Lawful, Allocable}
 use Rattle.settlement.proofs.Sums.{sum_above}
 use Rattle.settlement.proofs.Shares.{cases, at_zeros, allocated_near}

@@ -1,8 +1,7 @@
 -- The distance of a clearing charge from its exact value.
-use Rattle.std.proofs.Common.{◌≡◌, ℕ, zero, suc, ◌+◌, ◌*◌, ◌<◌, ◌≤◌, ℤ, pos, negsuc, ◌+ℤ◌, ◌-ℤ◌, ◌*ℤ◌, nat_abs, ◌≤ℤ◌, ◌<ℤ◌, sym, refl, ap, ◌∙◌, mul-le-mul_left, arith}
-use borrow.Author.Differences.{up, down, sum_is_lem, product_is, lt_out, le_out}
+use Rattle.std.proofs.Common.{◌≡◌, ℕ, ◌*◌, ℤ, pos, negsuc, ◌+ℤ◌, ◌-ℤ◌, ◌*ℤ◌, nat_abs, ◌≤ℤ◌, ◌<ℤ◌, sym, refl, ap, ◌∙◌, mul-le-mul_left, arith}
+use borrow.Author.Differences.{up, down, product_is, le_out}
 use Rattle.std.proofs.lemmas.Int.{ints}
-use lib.IntN.{*ℤ_comm}
 use Rattle.allocation.specs.Products.{sum_times, times_sum, next_multiple}
 use Rattle.allocation.specs.RoundingLemmas.{Near}
 use Rattle.settlement.specs.Laws.{Close}

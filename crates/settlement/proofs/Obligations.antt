@@ -1,18 +1,15 @@
 -- Adjusted obligations add up to what is assigned.
-use Rattle.std.proofs.Common.{◌≡◌, ℕ, ◌<◌, ◌≤◌, ◌⊎◌, List, [], ◌∷◌, map, length, ℤ, pos, ◌+ℤ◌, ◌-ℤ◌, ◌*ℤ◌, ◌≤ℤ◌, ◌<ℤ◌, sym, refl, ap, ◌∙◌, inl, inr, arith}
-use Rattle.std.specs.List.{range_with_len}
+use Rattle.std.proofs.Common.{◌≡◌, ℕ, ◌<◌, List, map, ℤ, pos, ◌+ℤ◌, ◌-ℤ◌, ◌*ℤ◌, ◌≤ℤ◌, ◌<ℤ◌, sym, ◌∙◌, inl, inr, arith}
 use Rattle.std.proofs.lemmas.Int.{ints}
 use Rattle.std.proofs.lemmas.List.FromFn.{length-map-range_with_len, get_or-map-range_with_len}
-use Rattle.allocation.specs.Weights.{total}
-use Rattle.allocation.specs.Refusals.{Admissible}
 use Rattle.allocation.specs.RoundingLemmas.{Near}
 use Rattle.hours.specs.declared.hour.Hour.{Hour}
-use Rattle.settlement.specs.Sums.{sum, at, Meaning, allocated}
-use Rattle.settlement.specs.Days.{Day, members, resources, resource, load, Sales}
+use Rattle.settlement.specs.Sums.{sum, at, Meaning}
+use Rattle.settlement.specs.Days.{Day, members, load, Sales}
 use Rattle.settlement.specs.Settlement.{line, total_assigned, total_load, total_clearing, net_sales, obligations, adjusted_obligation_of, adjusted_obligations, clearing_charges}
-use Rattle.settlement.specs.Laws.{Lawful, Allocable, NoneRefused, ChargesClose, Close}
-use Rattle.settlement.proofs.Sums.{sum_plus, sum_minus, sum_swap, sum_at}
-use Rattle.settlement.proofs.Shares.{allocated_total, allocated_length, allocated_near}
+use Rattle.settlement.specs.Laws.{Lawful, Allocable, NoneRefused, ChargesClose}
+use Rattle.settlement.proofs.Sums.{sum_plus, sum_minus, sum_swap}
+use Rattle.settlement.proofs.Shares.{allocated_near}
 use Rattle.settlement.proofs.Balances.{allocated_all}
 use Rattle.settlement.proofs.Distances.{close}
 

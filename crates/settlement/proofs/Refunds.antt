@@ -1,5 +1,5 @@
 -- Shortfalls and refunds are small, and no allocation of theirs is refused.
-use Rattle.std.proofs.Common.{◌≡◌, ℕ, zero, suc, ◌+◌, ◌-◌, ◌*◌, ◌/◌, ◌<◌, ◌≤◌, min, max, Bool, true, false, cond, eqb, leb, ◌⊎◌, List, [], ◌∷◌, map, length, get_or, ℤ, pos, negsuc, ◌+ℤ◌, ◌-ℤ◌, ◌*ℤ◌, nat_abs, ◌≤ℤ◌, ◌<ℤ◌, Some, None, filter, Option, sym, refl, ap, ◌∙◌, inl, inr, zero-add, arith, lit≤}
+use Rattle.std.proofs.Common.{◌≡◌, ℕ, zero, suc, ◌+◌, ◌-◌, ◌*◌, ◌/◌, ◌<◌, ◌≤◌, min, max, Bool, true, false, cond, eqb, List, [], ◌∷◌, map, length, ℤ, pos, ◌+ℤ◌, ◌-ℤ◌, ◌*ℤ◌, nat_abs, ◌≤ℤ◌, Some, None, filter, Option, sym, refl, ap, ◌∙◌, inl, inr, zero-add, arith, lit≤}
 use lib.Signed.{lt_z}
 use Rattle.std.specs.Int.{int_max}
 use Rattle.std.specs.List.{range_with_len, AllByRecursion as All}
@@ -7,19 +7,14 @@ use Rattle.std.proofs.lemmas.Int.{ints, clamps}
 use Rattle.std.proofs.lemmas.Bool.Decides.{nat_tests}
 use Rattle.std.proofs.lemmas.Bool.{eq-eqb}
 use Rattle.std.proofs.lemmas.List.{length-map}
-use Rattle.std.proofs.lemmas.List.FromFn.{length-range_with_len, length-map-range_with_len, get_or-map-range_with_len}
+use Rattle.std.proofs.lemmas.List.FromFn.{length-range_with_len, length-map-range_with_len}
 use Rattle.std.proofs.ByRecursion.{All-weaker}
-use Rattle.allocation.specs.Weights.{total, magnitude}
-use Rattle.allocation.specs.Rounding.{half_up}
 use Rattle.events.specs.declared.event.Event.{Event}
 use Rattle.events.specs.declared.event.Reading.{Reading}
 use Rattle.events.specs.declared.resource.ResourceKind.{ResourceKind}
 use Rattle.events.specs.declared.resource.ResourceKind.TheVariants.{Generator, Demand}
-use Rattle.hours.specs.declared.assignment.Assignment.{Assignment}
-use Rattle.hours.specs.declared.assignment.Assignment.TheVariants.{Unassigned, TierOne, SelfScheduled, PoolScheduled}
-use Rattle.hours.specs.Assignments.{kwh_of, Small}
-use Rattle.settlement.specs.Sums.{sum, largest, at, is_zero, Meaning, allocated}
-use Rattle.settlement.specs.Days.{Day, resources, hours, resource, owns, owned, assignment, assigned, reading}
+use Rattle.settlement.specs.Sums.{sum, at, is_zero, Meaning}
+use Rattle.settlement.specs.Days.{Day, resources, hours, resource, owns, owned, assigned, reading}
 use Rattle.settlement.specs.Shortfalls.{minutes_in, counts, rise, response_of, counted, response, held, shortfall, over_response, net_shortfall, refund_minutes, retroactive_shortfalls, retroactive_shortfall, largest_shortfall, day_refund, refund_part}
 use Rattle.settlement.specs.Laws.{Lawful, Allocable, BoundedDay}
 use Rattle.settlement.proofs.Sums.{sum_above, sum_below, sum_swap, all_counting}

@@ -1,12 +1,12 @@
 -- What the laws of a rule say of what is allocated.
-use Rattle.std.proofs.Common.{◌≡◌, ℕ, zero, suc, ◌+◌, ◌*◌, ◌<◌, ◌≤◌, Bool, true, false, cond, eqb, ◌⊎◌, List, [], ◌∷◌, map, length, get_or, ℤ, pos, negsuc, ◌+ℤ◌, ◌-ℤ◌, ◌*ℤ◌, nat_abs, ◌≤ℤ◌, ◌<ℤ◌, sym, refl, ap, ◌∙◌, inl, inr, arith}
+use Rattle.std.proofs.Common.{◌≡◌, ℕ, zero, suc, ◌<◌, false, ◌⊎◌, List, [], ◌∷◌, map, length, ℤ, pos, negsuc, ◌*ℤ◌, ◌<ℤ◌, sym, refl, ap, ◌∙◌, inl, inr, arith}
 use Rattle.std.proofs.lemmas.Int.{ints}
 use Rattle.std.proofs.lemmas.Bool.Decides.{nat_tests}
 use Rattle.std.proofs.lemmas.List.{length-map}
-use Rattle.allocation.specs.Weights.{total, magnitude}
+use Rattle.allocation.specs.Weights.{total}
 use Rattle.allocation.specs.Refusals.{Admissible}
 use Rattle.allocation.specs.RoundingLemmas.{Near, near_from_rounded}
-use Rattle.settlement.specs.Sums.{sum, at, is_zero, Meaning, allocated}
+use Rattle.settlement.specs.Sums.{at, is_zero, Meaning, allocated}
 use Rattle.settlement.specs.Laws.{Lawful, Allocable}
 use Rattle.settlement.proofs.Sums.{sum_zero}
 

@@ -1,6 +1,6 @@
 -- The day's inputs as settlement reads them: what all hours have in common, and what belongs to one hour.
 -- Places count from 0: the hour at place k is hour ending k + 1.
-use Rattle.std.specs.Prelude.{ℕ, Bool, true, false, List, [], length, ℤ, pos, filter, ◌==◌, slice_index_or}
+use Rattle.std.specs.Prelude.{ℕ, Bool, true, false, List, length, ℤ, pos, filter, ◌==◌, slice_index_or}
 use Rattle.std.specs.List.{range_with_len}
 use Rattle.events.specs.declared.event.Event.{Event}
 use Rattle.events.specs.declared.event.Reading.{Reading}

@@ -1,5 +1,5 @@
 -- Sums, largest values and allocated amounts.
-use Rattle.std.specs.Prelude.{ℕ, Bool, true, cond, ◌&&◌, List, [], ◌∷◌, map, ℤ, pos, ◌+ℤ◌, ◌==◌, slice_index_or, unsigned_abs}
+use Rattle.std.specs.Prelude.{ℕ, Bool, true, cond, ◌&&◌, List, [], ◌∷◌, map, ℤ, pos, ◌==◌, slice_index_or, unsigned_abs}
 use Rattle.std.specs.Int.{int_max}
 use Rattle.allocation.specs.Weights.{total}
 use Rattle.allocation.specs.Rounding.{half_up}

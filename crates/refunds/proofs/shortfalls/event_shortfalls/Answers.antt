@@ -15,8 +15,8 @@ shortfalls-requires c =
 
 pub invariant_of-result : goal.invariant_of-result
 invariant_of-result c = record {
-      wide = c.loop-place.invariant.1.wide;
-    }
+  wide = c.loop-place.invariant.1.wide;
+}
 
 pub loop-place-init : goal.loop-place-init
 loop-place-init c = (refl, written_none _ _)

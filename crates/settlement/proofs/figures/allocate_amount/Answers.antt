@@ -1,4 +1,4 @@
-use Rattle.std.proofs.Common.{◌≡◌, pos, sym, ap, ◌∙◌, arith, w64}
+use Rattle.std.proofs.Common.{◌≡◌, pos, sym, ◌∙◌, arith}
 use Rattle.std.proofs.lemmas.Int.{ints, to_z-of_z}
 use Rattle.settlement.proofs.Steps.{zeros_are, allocated_fixed, zero_allocated, some_allocated}
 use Rattle.settlement.proofs.figures.allocate_amount.Goals as goal

@@ -1,5 +1,5 @@
 use Rattle.std.proofs.Common.{◌≡◌, ℕ, ◌≤◌, ℤ, pos, ◌*ℤ◌, ◌≤ℤ◌, ap, ◌∙◌, arith, w64, SFits, to_z, of_z}
-use Rattle.std.proofs.lemmas.Int.{ints, to_z-of_z, to_z_pos}
+use Rattle.std.proofs.lemmas.Int.{ints, to_z-of_z}
 use Rattle.allocation.specs.Rounding.{half_up}
 use Rattle.settlement.proofs.Bounds.{product_above, product_left}
 use Rattle.settlement.proofs.figures.cents.Goals as goal
