@@ -1,19 +1,19 @@
 -- Credits of a resource, as the code computes them.
-use Rattle.std.proofs.Common.{◌≡◌, ℕ, ◌<◌, ◌≤◌, Bool, true, false, cond, ◌&&◌, eqb, length, ℤ, pos, ◌+ℤ◌, ◌-ℤ◌, ◌*ℤ◌, ◌≤ℤ◌, sym, refl, ap, ◌∙◌, arith}
+use Rattle.std.proofs.Common.{◌≡◌, ℕ, ◌<◌, ◌≤◌, Bool, true, false, cond, ◌&&◌, eqb, length, ℤ, pos, ◌+ℤ◌, ◌-ℤ◌, ◌*ℤ◌, ◌≤ℤ◌, sym, ap, ◌∙◌, arith}
 use lib.IntN.{*ℤ_comm}
 use Rattle.std.specs.Int.{int_max}
-use Rattle.std.proofs.lemmas.Int.{ints, clamps}
+use Rattle.std.proofs.lemmas.Int.{ints}
 use Rattle.std.proofs.lemmas.Bool.Decides.{nat_tests}
 use Rattle.allocation.specs.Rounding.{half_up}
 use Rattle.hours.specs.declared.hour.Hour.{Hour}
 use Rattle.hours.specs.declared.assignment.Assignment.{Assignment}
-use Rattle.hours.specs.declared.assignment.Assignment.TheVariants.{Unassigned, TierOne, SelfScheduled, PoolScheduled}
+use Rattle.hours.specs.declared.assignment.Assignment.TheVariants.{PoolScheduled}
 use Rattle.inputs.specs.declared.tables.Tables.{Tables}
 use Rattle.settlement.specs.Sums.{largest, per_thousand}
 use Rattle.settlement.specs.Days.{Day, assignment, assigned, is_tier_one}
 use Rattle.settlement.specs.Shortfalls.{shortfall}
 use Rattle.settlement.specs.Settlement.{counted_here, delivered, delivered_tier_one, clearing_credit_of, opportunity_cost, opportunity_cost_credit_of}
-use Rattle.settlement.proofs.Bounds.{largest_above, product_above, product_left, thousand_above, thousand_below}
+use Rattle.settlement.proofs.Bounds.{product_above, product_left, thousand_above, thousand_below}
 use Rattle.settlement.proofs.Refunds.{assigned_small}
 use Rattle.settlement.proofs.Acceptance.{delivered_bounds, credit_bounds}
 use Rattle.settlement.proofs.Tables.{bounded}

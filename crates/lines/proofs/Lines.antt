@@ -1,7 +1,6 @@
 -- The lines, the total and the refusal of a settled hour.
-use Rattle.std.proofs.Common.{◌≡◌, ℕ, ◌<◌, ◌≤◌, Bool, true, false, cond, ◌&&◌, ◌||◌, ltb, ◌⊎◌, List, map, length, get_or, ℤ, pos, ◌+ℤ◌, ◌<ℤ◌, sym, refl, ap, ◌∙◌, inl, inr, arith}
+use Rattle.std.proofs.Common.{◌≡◌, ℕ, ◌<◌, ◌≤◌, Bool, true, false, ◌&&◌, ◌||◌, ltb, List, map, length, ℤ, pos, ◌+ℤ◌, sym, refl, ap, ◌∙◌, inl, inr, arith}
 use lib.Signed.{lt_z}
-use Rattle.std.specs.List.{range_with_len}
 use Rattle.std.proofs.lemmas.Int.{ints}
 use Rattle.std.proofs.lemmas.Bool.Decides.{nat_tests}
 use Rattle.std.proofs.lemmas.Bool.{cases_Bool}
@@ -10,9 +9,8 @@ use Rattle.std.proofs.lemmas.List.FromFn.{length-map-range_with_len, get_or-map-
 use Rattle.inputs.specs.declared.tables.Tables.{Tables}
 use Rattle.inputs.specs.States.{state_of}
 use Rattle.settlement.specs.declared.line.Line.{Line}
-use Rattle.settlement.specs.Sums.{sum, at, all_zero, Meaning}
-use Rattle.settlement.specs.Days.{members, resources}
-use Rattle.settlement.specs.Shortfalls.{refund_part}
+use Rattle.settlement.specs.Sums.{at, all_zero, Meaning}
+use Rattle.settlement.specs.Days.{members}
 use Rattle.settlement.specs.Settlement.{own, clearing_credit_of, opportunity_cost_credit_of, total_clearing, total_opportunity_cost, total_refund, payees, refunds_paid, unsettleable, line, line_at, zero_line, settled_total, defined_lines, nobody_to_charge, defined_total}
 use Rattle.settlement.specs.Laws.{Lawful, Allocable}
 use Rattle.settlement.proofs.Sums.{sum_plus}

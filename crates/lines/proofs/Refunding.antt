@@ -1,5 +1,5 @@
 -- The search for a resource with a day refund.
-use Rattle.std.proofs.Common.{◌≡◌, ℕ, suc, ◌+◌, ◌-◌, ◌<◌, Bool, true, false, cond, List, [], ◌∷◌, ℤ, pos, ◌≤ℤ◌, ◌<ℤ◌, filter, sym, refl, ap, ◌∙◌, arith}
+use Rattle.std.proofs.Common.{◌≡◌, ℕ, suc, ◌+◌, ◌-◌, ◌<◌, Bool, true, false, cond, ◌∷◌, ℤ, pos, ◌≤ℤ◌, ◌<ℤ◌, filter, refl, ap, ◌∙◌, arith}
 use lib.Signed.{lt_z}
 use Rattle.std.specs.List.{range_with_len}
 use Rattle.std.specs.Int.{int_max}

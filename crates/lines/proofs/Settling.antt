@@ -1,14 +1,13 @@
 -- From what the code holds to what the definitions say.
-use Rattle.std.proofs.Common.{◌≡◌, ℕ, ◌+◌, ◌-◌, ◌*◌, ◌<◌, ◌≤◌, Bool, true, false, cond, ◌&&◌, ◌||◌, List, [], ◌∷◌, map, length, get_or, take, ℤ, pos, ◌+ℤ◌, ◌-ℤ◌, nat_abs, ◌≤ℤ◌, ◌<ℤ◌, sym, refl, ap, ◌∙◌, arith}
+use Rattle.std.proofs.Common.{◌≡◌, ℕ, ◌-◌, ◌<◌, Bool, cond, ◌&&◌, List, [], ◌∷◌, map, length, take, ℤ, pos, ◌+ℤ◌, ◌-ℤ◌, sym, refl, ap, ◌∙◌, arith}
 use lib.Signed.{lt_z}
-use Rattle.std.specs.List.{range_with_len, AllByRecursion as All}
-use Rattle.std.proofs.lemmas.Int.{ints}
+use Rattle.std.specs.List.{AllByRecursion as All}
 use Rattle.std.proofs.lemmas.List.{length-take}
 use Rattle.std.proofs.lemmas.List.FromFn.{length-map-range_with_len}
 use Rattle.allocation.specs.Weights.{total}
 use Rattle.inputs.specs.declared.tables.Tables.{Tables}
 use Rattle.settlement.specs.Sums.{sum, largest, at, at_least_zero, is_zero, all_zero, or_else, Meaning, allocated}
-use Rattle.settlement.specs.Days.{Day, members, resources, owns, owned, assigned, load, Sales}
+use Rattle.settlement.specs.Days.{members, resources, owns, owned, assigned, load}
 use Rattle.settlement.specs.Shortfalls.{day_refund, refund_part}
 use Rattle.settlement.specs.Settlement.{own, total_assigned, total_load, total_clearing, total_opportunity_cost, total_refund, clearing_credit_of, opportunity_cost_credit_of, delivered, delivered_tier_one, net_sales, is_refunding, obligations, adjusted_obligation_of, adjusted_obligations, purchase, buyers, refund_weight, payees, clearing_charges, opportunity_cost_charges, refunds_paid}
 use Rattle.settlement.proofs.Bounds.{all_kept}
@@ -18,7 +17,7 @@ use Rattle.settlement.proofs.Tables.{few_members}
 use Rattle.lines.specs.Figures.{First, ByResource, ByMember, the_day, the_hour, the_sales}
 use Rattle.lines.specs.Steps.{no_load, no_payee, Shares}
 use Rattle.lines.proofs.Steps.{first_list}
-use Rattle.lines.proofs.Sizes.{sum_first, share_at}
+use Rattle.lines.proofs.Sizes.{sum_first}
 
 -- ---- lists cut from arrays
 

@@ -1,25 +1,22 @@
 -- How large the figures of an hour are.
-use Rattle.std.proofs.Common.{◌≡◌, ℕ, ◌+◌, ◌-◌, ◌*◌, ◌<◌, ◌≤◌, Bool, true, false, cond, ◌&&◌, List, [], ◌∷◌, map, length, get_or, take, ℤ, pos, ◌+ℤ◌, ◌-ℤ◌, nat_abs, ◌≤ℤ◌, ◌<ℤ◌, sym, refl, ap, ◌∙◌, arith, lit≤, get_or-take}
+use Rattle.std.proofs.Common.{◌≡◌, ℕ, ◌-◌, ◌*◌, ◌<◌, ◌≤◌, Bool, true, false, ◌&&◌, List, [], ◌∷◌, map, length, take, ℤ, pos, ◌+ℤ◌, ◌-ℤ◌, nat_abs, ◌≤ℤ◌, ◌<ℤ◌, sym, ap, ◌∙◌, arith, get_or-take}
 use lib.Signed.{lt_z}
 use Rattle.std.specs.List.{range_with_len, AllByRecursion as All}
 use Rattle.std.proofs.lemmas.Int.{ints}
 use Rattle.std.proofs.lemmas.List.{length-take}
 use Rattle.std.proofs.lemmas.List.FromFn.{length-range_with_len}
-use Rattle.allocation.specs.Weights.{total}
-use Rattle.hours.specs.declared.hour.Hour.{Hour}
 use Rattle.inputs.specs.declared.tables.Tables.{Tables}
-use Rattle.settlement.specs.Sums.{sum, at, is_zero, Meaning, allocated}
-use Rattle.settlement.specs.Days.{Day, members, resources, owns, owned, assigned, load, Sales}
-use Rattle.settlement.specs.Shortfalls.{day_refund, refund_part}
+use Rattle.settlement.specs.Sums.{sum, at, is_zero, Meaning}
+use Rattle.settlement.specs.Days.{members, resources, owns, owned, assigned, load}
 use Rattle.settlement.specs.Settlement.{own, total_assigned, total_load, net_sales, obligations, adjusted_obligation_of}
-use Rattle.settlement.specs.Laws.{Lawful, Allocable, Bounded}
+use Rattle.settlement.specs.Laws.{Lawful, Allocable}
 use Rattle.settlement.proofs.Sums.{sum_all, sum_above, all_counting}
 use Rattle.settlement.proofs.Steps.{small_at}
-use Rattle.settlement.proofs.Bounds.{one_le, kept_length, above_test, at_above}
+use Rattle.settlement.proofs.Bounds.{one_le, kept_length, above_test}
 use Rattle.settlement.proofs.Obligations.{at_members}
-use Rattle.settlement.proofs.Refunds.{all_owned, assigned_small, part_bounds, refund_above, refund_small}
-use Rattle.settlement.proofs.Acceptance.{not_zero, T_above, each_member, sold_above, bought_above, sold, bought, reach, total_reach, reserve, obligation_above, obligation_small, adjusted_size}
-use Rattle.settlement.proofs.Tables.{bounded, bounded_day, few_resources, few_members}
+use Rattle.settlement.proofs.Refunds.{all_owned, assigned_small}
+use Rattle.settlement.proofs.Acceptance.{not_zero, T_above, each_member, sold_above, bought_above, reach, total_reach, reserve, obligation_above, obligation_small, adjusted_size}
+use Rattle.settlement.proofs.Tables.{bounded, bounded_day, few_resources}
 use Rattle.lines.specs.Figures.{First, Modest, Moderate, the_day, the_hour, the_sales}
 use Rattle.lines.specs.Steps.{no_load, Shares}
 

@@ -1,5 +1,5 @@
 -- What each step of an hour's settlement leaves, as the code holds it.
-use Rattle.std.specs.Prelude.{◌≡◌, ℕ, ◌<◌, Bool, true, false, ◌&&◌, List, length, take, ℤ, pos, ◌+ℤ◌, ◌<ℤ◌, Some, None, Option, int_lt}
+use Rattle.std.specs.Prelude.{◌≡◌, ℕ, Bool, true, false, ◌&&◌, List, length, take, ℤ, pos, ◌+ℤ◌, Some, None, Option, int_lt}
 use Rattle.inputs.specs.declared.tables.Tables.{Tables}
 use Rattle.settlement.specs.declared.line.Line.{Line}
 use Rattle.settlement.specs.Sums.{at, is_zero, all_zero, Meaning}

@@ -1,14 +1,11 @@
-use Rattle.std.proofs.Common.{◌≡◌, ◌<◌, ◌≤◌, List, map, length, ℤ, nat_abs, sym, ap, ◌∙◌, arith, lit≤}
+use Rattle.std.proofs.Common.{length, nat_abs, ap, arith, lit≤}
 use Rattle.std.proofs.lemmas.Int.{ints}
-use Rattle.std.proofs.lemmas.List.FromFn.{length-map-range_with_len}
-use Rattle.settlement.specs.Sums.{at}
-use Rattle.settlement.specs.Days.{members}
-use Rattle.settlement.specs.Settlement.{clearing_credit_of, opportunity_cost_credit_of, delivered, total_clearing, total_opportunity_cost, adjusted_obligation_of, adjusted_obligations, purchase, buyers}
+use Rattle.settlement.specs.Settlement.{clearing_credit_of, opportunity_cost_credit_of, delivered, total_clearing, total_opportunity_cost, adjusted_obligation_of, adjusted_obligations, buyers}
 use Rattle.settlement.specs.Laws.{Lawful}
-use Rattle.settlement.proofs.Steps.{accepted_at, own_same}
+use Rattle.settlement.proofs.Steps.{accepted_at}
 use Rattle.settlement.proofs.Acceptance.{clearing, opportunity_costs, costs, A_small, C_above, C_scaled, O_above, O_small}
 use Rattle.settlement.proofs.Tables.{bounded}
-use Rattle.lines.specs.Figures.{Modest, Moderate, ByMember, the_day, the_hour, the_sales}
+use Rattle.lines.specs.Figures.{the_day, the_hour, the_sales}
 use Rattle.lines.proofs.Crediting.{delivered_small, credit_small}
 use Rattle.lines.proofs.Sizes.{modest_by, moderate_by, front_few, carried, adjusted_small}
 use Rattle.lines.proofs.Settling.{front_list, clearing_is, costs_is, clearing_charges_are, cost_charges_are, buyers_are, own_columns}

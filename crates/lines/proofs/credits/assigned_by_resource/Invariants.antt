@@ -1,6 +1,4 @@
-use Rattle.std.proofs.Common.{◌≡◌, ℕ, ◌<◌}
-use Rattle.settlement.specs.Sums.{at}
-use Rattle.lines.specs.Figures.{Filled, the_day, the_hour}
+use Rattle.lines.specs.Figures.{Filled, the_day}
 use Rattle.settlement.specs.Days.{assigned}
 use Rattle.lines.proofs.credits.assigned_by_resource.Given as goal
 

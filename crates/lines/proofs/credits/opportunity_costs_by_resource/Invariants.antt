@@ -1,5 +1,3 @@
-use Rattle.std.proofs.Common.{◌≡◌, ℕ, ◌<◌}
-use Rattle.settlement.specs.Sums.{at}
 use Rattle.lines.specs.Figures.{Filled, the_day, the_hour}
 use Rattle.settlement.specs.Settlement.{opportunity_cost_credit_of}
 use Rattle.lines.proofs.credits.opportunity_costs_by_resource.Given as goal

@@ -1,4 +1,4 @@
-use Rattle.std.proofs.Common.{◌≡◌, ◌<◌, length, get_or, ℤ, pos, ap, arith}
+use Rattle.std.proofs.Common.{◌<◌, length, get_or, pos, ap, arith}
 use Rattle.std.proofs.lemmas.Int.{ints}
 use Rattle.settlement.specs.Settlement.{delivered_tier_one}
 use Rattle.lines.specs.Figures.{the_day}

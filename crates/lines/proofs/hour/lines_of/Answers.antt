@@ -1,4 +1,4 @@
-use Rattle.std.proofs.Common.{◌≡◌, ◌≢◌, length, ap, ◌∙◌, arith, length-set, get_or-set_other, get_or-set_same, below_more}
+use Rattle.std.proofs.Common.{◌≢◌, ◌∙◌, arith, length-set, get_or-set_other, get_or-set_same, below_more}
 use Rattle.settlement.specs.Settlement.{zero_line}
 use Rattle.lines.proofs.hour.lines_of.Goals as goal
 

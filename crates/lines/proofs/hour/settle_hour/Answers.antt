@@ -1,4 +1,4 @@
-use Rattle.std.proofs.Common.{◌≡◌, sym, refl, ap, ◌∙◌, arith}
+use Rattle.std.proofs.Common.{refl, arith}
 use Rattle.std.proofs.lemmas.Int.{ints}
 use Rattle.settlement.specs.Laws.{Lawful}
 use Rattle.settlement.proofs.Acceptance.{A_small, C_above, C_scaled, O_above, O_small, R_above, R_small}

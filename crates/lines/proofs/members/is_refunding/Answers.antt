@@ -1,4 +1,4 @@
-use Rattle.std.proofs.Common.{◌≡◌, ℕ, Bool, eqb, length, get_or, sym, ◌∙◌, arith}
+use Rattle.std.proofs.Common.{ℕ, Bool, eqb, length, get_or, sym, ◌∙◌, arith}
 use Rattle.std.proofs.lemmas.Int.{ints}
 use Rattle.std.proofs.lemmas.Bool.{eq-eqb, ne_eqb}
 use Rattle.events.specs.Resources.{no_resource}

@@ -1,5 +1,4 @@
-use Rattle.std.proofs.Common.{◌≡◌, ℤ, ◌-ℤ◌, nat_abs, ap, ◌∙◌, arith}
-use Rattle.std.proofs.lemmas.Int.{ints}
+use Rattle.std.proofs.Common.{ℤ, ◌-ℤ◌, nat_abs, ap, ◌∙◌, arith}
 use Rattle.settlement.specs.Sums.{at, at_least_zero}
 use Rattle.lines.proofs.Sizes.{own_size}
 use Rattle.lines.proofs.members.less_own.Goals as goal

@@ -1,4 +1,4 @@
-use Rattle.std.proofs.Common.{◌≡◌, get_or, ap, arith}
+use Rattle.std.proofs.Common.{get_or, ap, arith}
 use Rattle.std.proofs.lemmas.Int.{ints}
 use Rattle.hours.specs.declared.hour.Hour.{Hour}
 use Rattle.settlement.specs.Days.{load}

@@ -1,4 +1,4 @@
-use Rattle.std.proofs.Common.{◌≡◌, eqb, List, length, get_or, filter, ap, ◌∙◌, arith}
+use Rattle.std.proofs.Common.{eqb, List, length, get_or, filter, ap, ◌∙◌, arith}
 use Rattle.std.specs.List.{range_with_len}
 use Rattle.std.proofs.lemmas.Int.{ints}
 use Rattle.events.specs.declared.resource.Resource.{Resource}

@@ -1,4 +1,4 @@
-use Rattle.std.proofs.Common.{◌≡◌, Bool, cond, eqb, List, length, get_or, pos, filter, ap, ◌∙◌, arith}
+use Rattle.std.proofs.Common.{cond, eqb, List, length, get_or, pos, filter, ap, ◌∙◌, arith}
 use lib.Signed.{lt_z}
 use Rattle.std.specs.List.{range_with_len}
 use Rattle.std.proofs.lemmas.Int.{ints}

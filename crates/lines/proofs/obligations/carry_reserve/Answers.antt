@@ -1,8 +1,7 @@
-use Rattle.std.proofs.Common.{◌≡◌, ◌<◌, true, false, map, length, nat_abs, sym, ap, ◌∙◌, arith, lit≤, w64, to_z, of_z, rules}
+use Rattle.std.proofs.Common.{◌≡◌, ◌<◌, true, false, map, length, nat_abs, ap, arith, lit≤, w64, to_z, of_z}
 use Rattle.std.proofs.lemmas.Int.{ints}
-use Rattle.settlement.specs.Sums.{at}
 use Rattle.settlement.specs.Days.{assigned, load, members}
-use Rattle.settlement.specs.Settlement.{total_assigned, total_load, obligations}
+use Rattle.settlement.specs.Settlement.{total_assigned}
 use Rattle.settlement.specs.Laws.{Lawful}
 use Rattle.settlement.proofs.Steps.{accepted_at}
 use Rattle.lines.specs.Figures.{the_day, the_hour}

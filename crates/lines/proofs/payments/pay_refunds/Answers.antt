@@ -1,12 +1,11 @@
-use Rattle.std.proofs.Common.{◌≡◌, ◌<◌, ◌≤◌, true, false, length, ℤ, nat_abs, sym, ap, ◌∙◌, arith, lit≤, w64, to_z, of_z, rules}
+use Rattle.std.proofs.Common.{◌≡◌, true, false, length, nat_abs, ap, arith, lit≤, w64, to_z, of_z, rules}
 use Rattle.std.proofs.lemmas.Int.{ints, clamps}
 use Rattle.settlement.specs.Sums.{at}
 use Rattle.settlement.specs.Shortfalls.{day_refund, refund_part}
-use Rattle.settlement.specs.Settlement.{own, delivered_tier_one, total_refund, payees}
+use Rattle.settlement.specs.Settlement.{delivered_tier_one, total_refund, payees}
 use Rattle.settlement.specs.Laws.{Lawful}
 use Rattle.settlement.proofs.Steps.{accepted_at}
 use Rattle.settlement.proofs.Refunds.{part_bounds, refund_above, refund_small}
-use Rattle.settlement.proofs.Acceptance.{R_small, R_above}
 use Rattle.settlement.proofs.Tables.{bounded_day}
 use Rattle.lines.specs.Figures.{the_day, the_hour, the_sales}
 use Rattle.lines.specs.Steps.{no_payee}

@@ -1,4 +1,4 @@
-use Rattle.std.proofs.Common.{◌≡◌, ℕ, length, ℤ, sym, ap, ◌∙◌, arith, length-append}
+use Rattle.std.proofs.Common.{length, ℤ, ap, ◌∙◌, arith, length-append}
 use Rattle.std.proofs.lemmas.Int.{ints}
 use Rattle.std.proofs.lemmas.List.{take_at, length-take, length-drop}
 use Rattle.settlement.specs.Sums.{allocated}

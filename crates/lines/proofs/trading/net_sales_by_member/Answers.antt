@@ -1,4 +1,4 @@
-use Rattle.std.proofs.Common.{◌≡◌, ℕ, ◌<◌, List, length, get_or, take, ℤ, sum_by, ap, ◌∙◌, arith}
+use Rattle.std.proofs.Common.{◌≡◌, ℕ, ◌<◌, List, length, get_or, ℤ, sum_by, ap, ◌∙◌, arith}
 use Rattle.std.proofs.lemmas.Int.{ints}
 use Rattle.std.proofs.lemmas.List.{take_all}
 use Rattle.rolls.specs.Items.{items}
@@ -28,11 +28,11 @@ loop-trade-preserved c =
     let small = (trade_sound t i no_trade x l e).2 in
     elim c.if-trade-hour.branch [
       | then-trade-hour w ↦
-          let step = λ (m : ℕ) (h : m < 16). net_more k m ts i no_trade x (at c.loop-trade.net m) (at c.if-trade-hour.net m) l e small (c.loop-trade.invariant.1 m h) (c.loop-trade.invariant.2 m h) (eq-eqb _ k w.if-trade-hour.true) (ap (λ (xs : List ℤ). at xs m) w.net_is ∙ w.enter_trade.ensures m h) in
-          (omega (arith, ap length w.net_is, w.enter_trade.auto.net), λ m h. (step m h).0, λ m h. (step m h).1)
+          let step = λ (m : ℕ) (h : m < 16). net_more k m ts i no_trade x (at c.loop-trade.net m) (at c.if-trade-hour.net m) l e small (c.loop-trade.invariant.1 m h) (c.loop-trade.invariant.2 m h) (eq-eqb _ k w.if-trade-hour.true) (ap (λ (xs : List ℤ). at xs m) w.net-is ∙ w.enter_trade.ensures m h) in
+          (omega (arith, ap length w.net-is, w.enter_trade.auto.net), λ m h. (step m h).0, λ m h. (step m h).1)
       | else-trade-hour w ↦
-          let step = λ (m : ℕ) (h : m < 16). net_stays k m ts i no_trade x (at c.loop-trade.net m) (at c.if-trade-hour.net m) l e small (c.loop-trade.invariant.1 m h) (c.loop-trade.invariant.2 m h) (ne_eqb _ k w.if-trade-hour.false) (ap (λ (xs : List ℤ). at xs m) w.net_is) in
-          (ap length w.net_is ∙ c.loop-trade.invariant.0, λ m h. (step m h).0, λ m h. (step m h).1)
+          let step = λ (m : ℕ) (h : m < 16). net_stays k m ts i no_trade x (at c.loop-trade.net m) (at c.if-trade-hour.net m) l e small (c.loop-trade.invariant.1 m h) (c.loop-trade.invariant.2 m h) (ne_eqb _ k w.if-trade-hour.false) (ap (λ (xs : List ℤ). at xs m) w.net-is) in
+          (ap length w.net-is ∙ c.loop-trade.invariant.0, λ m h. (step m h).0, λ m h. (step m h).1)
     ]
 
 pub returns : goal.returns
