@@ -1,6 +1,4 @@
-use Rattle.std.proofs.Common.{◌≡◌, ℕ, ◌<◌, cond, ltb, length, get_or, take, Result}
-use Rattle.events.specs.declared.fault.BookFault.{BookFault}
-use Rattle.daybook.specs.declared.call.BookAnswer.{BookAnswer}
+use Rattle.std.proofs.Common.{◌≡◌, take}
 use Rattle.daybook.specs.Books.{book_of, run}
 use Rattle.daybook.proofs.Responses.{AnsweredBefore}
 use Rattle.daybook.proofs.replay.replay.Given as goal

@@ -6,8 +6,8 @@ use Rattle.daybook.proofs.ledger.Ledger.record.Goals as goal
 
 pub invariant_of-self : goal.invariant_of-self
 invariant_of-self c = record {
-      wide = rows_wide c.args.self.now.lines c.args.hour 16 24 c.args.lines (search rules) (search rules) c.args.self.now.wide;
-    }
+  wide = rows_wide c.args.self.now.lines c.args.hour 16 24 c.args.lines (search rules) (search rules) c.args.self.now.wide;
+}
 
 pub returns : goal.returns
 unfolding book_of
