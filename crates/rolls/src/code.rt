@@ -1,5 +1,5 @@
 // The code of a member or a resource: 1 to 6 capital letters or digits.
-ghost use Rattle.std.specs.Prelude.{◌≡◌, IfSome, if◌then◌else◌, Some, None};
+ghost use Rattle.std.specs.Prelude.{◌≡◌, ◌↔◌, IsTrue, IfSome, if◌then◌else◌, Some, None};
 ghost use Rattle.std.specs.Str.{bytes_eq};
 ghost use Rattle.rolls.specs.Codes.{is_sign, good, code_of, text_of};
 ghost use Rattle.std.specs.Cmp.Rules.{comparing};
@@ -27,7 +27,10 @@ impl PartialEq for Code {
 
     ghost laws = { Keys.partial_equiv_from_equiv (Prim.search (comparing, rules)) };
 
-    fn eq(&self, other: &Code) -> bool {
+    fn eq(&self, other: &Code) -> bool
+        ensures value { result ≡ bytes_eq self.now.signs other.now.signs }
+        ensures same { IsTrue result ↔ (self.now ≡ other.now) }
+    {
         self.signs == other.signs
     }
 }
