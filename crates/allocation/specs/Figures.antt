@@ -49,7 +49,7 @@ cumulative_whole a ws h =
     let all = figure_all a ws h in
     omega (arith, ints)
 
--- the products of `rise-rounded` as variables: `omega` would take each apart
+-- the products of `rise_rounded` as variables: `omega` would take each apart
 step : (d p q t t' x w : ℤ) → d ≡ p -ℤ q → t' ≡ t +ℤ x
     → (pos 2 *ℤ p) ≤ℤ (pos 2 *ℤ t' +ℤ w) → (pos 2 *ℤ t') <ℤ (pos 2 *ℤ p +ℤ w)
     → (pos 2 *ℤ q) ≤ℤ (pos 2 *ℤ t +ℤ w) → (pos 2 *ℤ t) <ℤ (pos 2 *ℤ q +ℤ w)
