@@ -1,5 +1,5 @@
 // The list of worked examples.
-ghost use Rattle.std.specs.List.{AllByRecursion as All};
+ghost use Rattle.std.specs.List.{AllByRecursion};
 ghost use Rattle.examples.specs.Examples.{Stands};
 
 // An amount and weights, with the shares that each rule gives.
@@ -26,7 +26,7 @@ pub enum WorkedExample<'a> {
 
 // The examples, each of which the definitions bear out.
 pub fn worked_examples() -> [WorkedExample<'static>; 4]
-    ensures { All Stands result }
+    ensures { AllByRecursion Stands result }
 {
     [
         WorkedExample::Allocation(AllocationExample {
