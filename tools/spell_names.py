@@ -1,7 +1,8 @@
 #!/usr/bin/env python3
 """Spells the repository's own definitions and lemmas in snake case, where the older Rattle had hyphens.
 
-usage: python3 tools/spell_names.py     at the top of the repository; it prints the names that fall together and then writes nothing
+usage: python3 tools/spell_names.py            at the top of the repository: prints the names that fall together, or stand elsewhere too
+       python3 tools/spell_names.py --write    and renames them in every file of crates/
 
 A name is one of the repository's own if a file right in a crate's specs/ or proofs/ declares or binds it there. What
 Rattle makes (the goals and steps that proof files cite) and what its library declares keep their spelling. Comments and
