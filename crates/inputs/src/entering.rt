@@ -72,8 +72,7 @@ fn within_bounds(assignment: Assignment<u64>) -> Result<Assignment<u32>, BookFau
     }
 }
 
-// An event call that names no resource. (Made by functions, since a literal that could hold a reference and holds none
-// gets no generated proof where it is passed on.)
+// The event calls that name no resource.
 fn beginning(start: u64) -> EventCall<'static>
     ensures { result ≡ Begin start }
 {
