@@ -9,8 +9,7 @@ use Rattle.events.specs.Outcomes.{Outcome, accepted, refuse_if}
 use Rattle.inputs.specs.declared.call.Call.{Call}
 use Rattle.inputs.specs.declared.call.Call.TheVariants.{Enrol, Register, SetLoad, SetPrices, Assign, SetTrade, Happen}
 use Rattle.inputs.specs.States.{State, opened}
-use Rattle.inputs.specs.Calls.{bad_hour}
-use Rattle.inputs.specs.Calls.{refusal, after}
+use Rattle.inputs.specs.Calls.{bad_hour, refusal, after}
 use Rattle.settlement.specs.Sums.{Meaning}
 use Rattle.settlement.specs.Settlement.{line_at, defined_lines, nobody_to_charge}
 use Rattle.daybook.specs.declared.call.BookCall.{BookCall}

@@ -5,8 +5,7 @@ use Rattle.events.specs.declared.fault.BookFault.TheVariants.{NoSuchMember, BadH
 use Rattle.events.specs.Outcomes.{accepted, refuse_if}
 use Rattle.inputs.specs.declared.call.Call.{Call}
 use Rattle.inputs.specs.States.{State, opened, state_of, hour_settled}
-use Rattle.inputs.specs.Calls.{bad_hour, member}
-use Rattle.inputs.specs.Calls.{refusal, answer_of, after}
+use Rattle.inputs.specs.Calls.{bad_hour, member, refusal, answer_of, after}
 use Rattle.inputs.specs.Asking.{of_hour, of_found}
 use Rattle.settlement.specs.declared.line.Line.{Line}
 use Rattle.settlement.specs.Sums.{Meaning}
