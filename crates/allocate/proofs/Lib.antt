@@ -1,2 +1,2 @@
-mod Digits
 mod Fields
+mod Numbers

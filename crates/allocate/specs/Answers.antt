@@ -4,8 +4,9 @@ use Rattle.allocation.specs.declared.refusal.AllocationRefusal.{AllocationRefusa
 use Rattle.allocation.specs.Refusals.{verdict}
 use Rattle.allocation.specs.Cumulative.{cumulative}
 use Rattle.allocation.specs.Remainder.{remainder}
-use Rattle.allocate.specs.declared.answer.Answer.{Answer}
-use Rattle.allocate.specs.declared.answer.Answer.TheVariants.{Allocated, Refused, NotARequest}
+use Rattle.allocate.specs.declared.answer.Shares.{Shares}
+use Rattle.allocate.specs.declared.answer.NoShares.{NoShares}
+use Rattle.allocate.specs.declared.answer.NoShares.TheVariants.{Refused, NotARequest}
 use Rattle.allocate.specs.Requests.{numbers_of}
 
 -- the shares under cumulative rounding and under largest remainder, or why there are none
@@ -14,15 +15,10 @@ pub data Reply : Type 0 where
   refusal : AllocationRefusal → Reply
   no_request : Reply
 
-abbrev pub reply_of : Answer → Reply
-reply_of (Allocated by_cumulative by_remainder) = shares (vec_items by_cumulative) (vec_items by_remainder)
-reply_of (Refused reason) = refusal reason
-reply_of NotARequest = no_request
-
--- the shares, unless the verdict is a refusal
-abbrev pub unless_refused : Result ℤ AllocationRefusal → List ℤ → Result (List ℤ) AllocationRefusal
-unless_refused (Ok w) ss = Ok ss
-unless_refused (Err reason) ss = Err reason
+abbrev pub reply_of : Result Shares NoShares → Reply
+reply_of (Ok found) = shares (vec_items found.by_cumulative) (vec_items found.by_remainder)
+reply_of (Err (Refused reason)) = refusal reason
+reply_of (Err NotARequest) = no_request
 
 -- what an amount and its weights are answered, by the verdict on them
 abbrev pub by_verdict : ℤ → List ℤ → Result ℤ AllocationRefusal → Reply

@@ -1,6 +1,7 @@
 -- The text of a request: an amount, then its weights, as whole numbers separated by commas.
-use Rattle.std.specs.Prelude.{ℕ, ◌+◌, ◌-◌, ◌*◌, ◌^◌, cond, ◌&&◌, ◌||◌, List, [], ◌∷◌, ◌++◌, length, ℤ, pos, neg_ℤ, Some, None, Option, ◌==◌, int_le, int_lt, nat_lt}
+use Rattle.std.specs.Prelude.{ℕ, ◌+◌, ◌-◌, ◌*◌, ◌^◌, cond, ◌&&◌, ◌||◌, List, [], ◌∷◌, length, ℤ, pos, neg_ℤ, Some, None, Option, ◌==◌, int_le, int_lt, nat_lt}
 use Rattle.std.specs.Option.{option_map, option_flatten}
+use Rattle.std.specs.List.{slice_split}
 use Rattle.std.specs.Char.{is_ascii_digit}
 
 -- the number that digits write after n; byte 48 is the digit 0
@@ -25,19 +26,9 @@ fitting z = cond (int_le (neg_ℤ (pos (2 ^ 63))) z && int_lt z (pos (2 ^ 63))) 
 abbrev pub number_of : List ℕ → Option ℤ
 number_of text = option_flatten (option_map fitting (signed_of text))
 
--- the fields of a text, which commas separate (byte 44), where the first field has some bytes already
-abbrev pub fields_onto : List ℕ → List ℕ → List (List ℕ)
-fields_onto first [] = first ∷ []
-fields_onto first (c ∷ cs) = cond (c == 44) (first ∷ fields_onto [] cs) (fields_onto (first ++ c ∷ []) cs)
-
--- the fields of a text
+-- the fields of a text, which commas separate; byte 44 is the comma
 abbrev pub fields : List ℕ → List (List ℕ)
-fields text = fields_onto [] text
-
--- the fields after a field: none where no comma ends it
-abbrev pub fields_after : Option (List ℕ) → List (List ℕ)
-fields_after None = []
-fields_after (Some text) = fields text
+fields text = slice_split (λ c. c == 44) text
 
 -- a number before others, if there is one and the others are numbers
 abbrev pub before : Option ℤ → Option (List ℤ) → Option (List ℤ)

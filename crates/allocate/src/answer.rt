@@ -1,110 +1,122 @@
-// Answers a line: the shares under each rule, a refusal, or that the line is not a request.
-ghost use Rattle.std.specs.Prelude.{◌≡◌, length, IfOk, vec_items, string_bytes};
-ghost use Rattle.std.specs.Result.{result_map_both};
-ghost use Rattle.allocation.specs.Refusals.{verdict};
-ghost use Rattle.allocate.specs.Answers.{reply_of, reply_to, reply_to_request, unless_refused};
+// Answers a line: the shares under each rule, or why there are none.
+ghost use Rattle.std.specs.Prelude.{◌≡◌, length, Ok, Err, Some, IfOk, vec_len};
+ghost use Rattle.allocate.specs.declared.answer.NoShares.TheVariants.{Refused};
+ghost use Rattle.allocate.specs.Answers.{reply_of, reply_to, reply_to_request};
 ghost use Rattle.allocate.specs.Texts.{list_text, reply_text};
 
 use crate::request::numbers;
 use allocation::cumulative::CumulativeRounding;
 use allocation::refusal::AllocationRefusal;
 use allocation::remainder::LargestRemainder;
-use allocation::rule::{AllocationRule, allocate_by};
+use allocation::rule::allocate_by;
 use std::alloc::{AllocError, Global};
+use std::fmt;
 
 const NOT_A_REQUEST: &str =
     "not a request: write an amount and its weights as whole numbers, separated by commas";
 
-// What a line is answered.
+// The shares of an amount under each rule; each rule writes a slice of its own.
 #[derive(Drop)]
-pub(crate) enum Answer {
-    // The shares under each rule.
-    Allocated {
-        by_cumulative: Vec<i64>,
-        by_remainder: Vec<i64>,
-    },
+pub(crate) struct Shares {
+    by_cumulative: Vec<i64>,
+    by_remainder: Vec<i64>,
+}
+
+// Why a line has no shares.
+#[derive(Clone, Copy)]
+pub(crate) enum NoShares {
     Refused(AllocationRefusal),
     NotARequest,
 }
 
-// The shares of the amount under a rule, or the refusal.
-fn shares_by<R: AllocationRule>(
-    heap: Global,
-    rule: &R,
-    amount: i64,
-    weights: &[i64],
-) -> Result<Result<Vec<i64>, AllocationRefusal>, AllocError>
-    ensures { IfOk result (λ s. result_map_both vec_items (λ e. e) s ≡ unless_refused (verdict amount weights.now (length weights.now)) (R.AllocationRule.shares rule.now amount weights.now)) }
-{
-    let mut out = vec![in heap; 0i64; weights.len()]?;
-    match allocate_by(rule, amount, weights, &mut out) {
-        Ok(()) => Ok(Ok(out)),
-        Err(refusal) => Ok(Err(refusal)),
+// What a line is answered. Running out of memory is no answer: it ends the run.
+pub(crate) type Answer = Result<Shares, NoShares>;
+
+impl From<AllocationRefusal> for NoShares {
+    ghost from_gives = { λ refusal reason. reason ≡ Refused refusal };
+
+    fn from(refusal: AllocationRefusal) -> NoShares {
+        NoShares::Refused(refusal)
     }
 }
 
-// The answer to an amount and its weights.
-fn allocate_both(heap: Global, amount: i64, weights: &[i64]) -> Result<Answer, AllocError>
-    ensures { IfOk result (λ a. reply_of a ≡ reply_to_request amount weights.now) }
-{
-    let by_cumulative = match shares_by(heap, &CumulativeRounding, amount, weights)? {
-        Ok(shares) => shares,
-        Err(refusal) => return Ok(Answer::Refused(refusal)),
-    };
-    match shares_by(heap, &LargestRemainder, amount, weights)? {
-        Ok(by_remainder) => Ok(Answer::Allocated {
-            by_cumulative,
-            by_remainder,
-        }),
-        Err(refusal) => Ok(Answer::Refused(refusal)),
+impl Shares {
+    // A place for each share, with a zero in it.
+    fn zeros(heap: Global, count: usize) -> Result<Shares, AllocError>
+        ensures by_cumulative { IfOk result (λ s. vec_len s.by_cumulative ≡ count) }
+        ensures by_remainder { IfOk result (λ s. vec_len s.by_remainder ≡ count) }
+    {
+        Ok(Shares {
+            by_cumulative: vec![in heap; 0i64; count]?,
+            by_remainder: vec![in heap; 0i64; count]?,
+        })
     }
+}
+
+// The shares of the amount, written to their places.
+fn allocate_both(amount: i64, weights: &[i64], mut places: Shares) -> Answer
+    requires by_cumulative { vec_len places.by_cumulative ≡ length weights.now }
+    requires by_remainder { vec_len places.by_remainder ≡ length weights.now }
+    ensures { reply_of result ≡ reply_to_request amount weights.now }
+{
+    allocate_by(
+        &CumulativeRounding,
+        amount,
+        weights,
+        &mut places.by_cumulative,
+    )?;
+    allocate_by(&LargestRemainder, amount, weights, &mut places.by_remainder)?;
+    Ok(places)
 }
 
 // The answer to a line without its line feed.
 pub(crate) fn answer_to(heap: Global, line: &[u8]) -> Result<Answer, AllocError>
     ensures { IfOk result (λ a. reply_of a ≡ reply_to line.now) }
 {
-    let Some(request) = numbers(heap, line)? else {
-        return Ok(Answer::NotARequest);
+    let request = numbers(heap, line)?;
+    let Some([amount, weights @ ..]) = request.as_deref() else {
+        return Ok(Err(NoShares::NotARequest));
     };
-    let Some((amount, weights)) = request.split_first() else {
-        return Ok(Answer::NotARequest);
-    };
-    allocate_both(heap, *amount, weights)
+    let places = Shares::zeros(heap, weights.len())?;
+    Ok(allocate_both(*amount, weights, places))
 }
 
-// Numbers separated by commas.
-fn listed(heap: Global, values: &[i64]) -> Result<String, AllocError>
-    ensures { IfOk result (λ t. string_bytes t ≡ list_text values.now) }
-{
-    let Some((first, others)) = values.split_first() else {
-        return Ok(String::new(heap));
-    };
-    let mut text = format!(in heap; "{first}")?;
-    for value in others {
-        let part = format!(in heap; ",{value}")?;
-        text.push_str(part.as_str())?;
+// Numbers separated by commas. The library's `join` joins texts alone.
+#[derive(Clone, Copy)]
+struct Listed<'a>(&'a [i64]);
+
+impl fmt::Display for Listed<'_> {
+    ghost output = { λ l. Some (list_text l.0.now) };
+
+    fn fmt<W: fmt::Write>(&self, f: &mut fmt::Formatter<W>) -> fmt::Result {
+        let Some((first, others)) = self.0.split_first() else {
+            return Ok(());
+        };
+        write!(f, "{first}")?;
+        for value in others {
+            write!(f, ",{value}")?;
+        }
+        Ok(())
     }
-    Ok(text)
 }
 
-// An answer as it is written.
-pub(crate) fn text_of(heap: Global, answer: &Answer) -> Result<String, AllocError>
-    ensures { IfOk result (λ t. string_bytes t ≡ reply_text (reply_of answer.now)) }
-{
-    match answer {
-        Answer::Allocated {
-            by_cumulative,
-            by_remainder,
-        } => {
-            let first = listed(heap, by_cumulative)?;
-            let second = listed(heap, by_remainder)?;
-            format!(in heap; "cumulative {first} remainder {second}")
+impl fmt::Display for Shares {
+    ghost output = { λ s. Some (reply_text (reply_of (Ok s))) };
+
+    fn fmt<W: fmt::Write>(&self, f: &mut fmt::Formatter<W>) -> fmt::Result {
+        let first = Listed(&self.by_cumulative);
+        let second = Listed(&self.by_remainder);
+        write!(f, "cumulative {first} remainder {second}")
+    }
+}
+
+impl fmt::Display for NoShares {
+    ghost output = { λ e. Some (reply_text (reply_of (Err e))) };
+
+    fn fmt<W: fmt::Write>(&self, f: &mut fmt::Formatter<W>) -> fmt::Result {
+        match self {
+            NoShares::Refused(refusal) => write!(f, "refused {refusal}"),
+            NoShares::NotARequest => f.write_str(NOT_A_REQUEST),
         }
-        Answer::Refused(refusal) => {
-            let code = refusal.number();
-            format!(in heap; "refused {code}")
-        }
-        Answer::NotARequest => String::from_str(heap, NOT_A_REQUEST),
     }
 }

@@ -1,9 +1,9 @@
 -- Products and whole quotients of integers.
-use Rattle.std.specs.Prelude.{◌≡◌, ℕ, zero, suc, ◌*◌, ◌≤◌, ℤ, pos, negsuc, ◌+ℤ◌, ◌-ℤ◌, ◌*ℤ◌, neg_ℤ, ◌≤ℤ◌, ◌<ℤ◌, FitsSigned, unsigned_abs, refl}
-use Rattle.std.proofs.Common.{ap, ◌∙◌, mul-le-mul_right, mul-le-mul_left, arith}
+use Rattle.std.specs.Prelude.{◌≡◌, ℕ, zero, suc, ◌*◌, ◌≤◌, ℤ, pos, negsuc, ◌+ℤ◌, ◌-ℤ◌, ◌*ℤ◌, neg_ℤ, ◌≤ℤ◌, ◌<ℤ◌, unsigned_abs}
+use Rattle.std.proofs.Common.{ap, ◌∙◌, mul-le-mul_right, arith}
 use borrow.Author.Differences.{up, down, sum_is_lem, product_is, lt_out}
 use Rattle.std.proofs.lemmas.Int.{ints, by_lt_z}
-use Rattle.std.specs.Int.{int_rem_euclid, w64}
+use Rattle.std.specs.Int.{int_rem_euclid}
 use Rattle.allocation.specs.Rounding.{floor, ceiling}
 
 -- a sum times a number
@@ -58,18 +58,6 @@ size_times (pos a) (pos (suc n)) h = omega arith
 size_times (negsuc a) (pos (suc n)) h = omega (arith, ints)
 size_times q (pos zero) h = absurd (omega (arith, ints))
 size_times q (negsuc n) h = absurd (omega (arith, ints))
-
-pub abs_times : (a b : ℤ) → unsigned_abs (a *ℤ b) ≡ unsigned_abs a * unsigned_abs b
-abs_times (pos a) (pos b) = refl
-abs_times (pos a) (negsuc b) = omega (arith, ints)
-abs_times (negsuc a) (pos b) = omega (arith, ints)
-abs_times (negsuc a) (negsuc b) = refl
-
-pub fits_small : (z : ℤ) → unsigned_abs z ≤ 9000000000000000000 → FitsSigned w64 z
-fits_small z h = omega (arith, ints)
-
-pub bounded : (x y a m n : ℕ) → x ≡ a → y ≤ m → a * m ≤ n → x * y ≤ n
-bounded x y a m n e h k = let l = mul-le-mul_left x h in let f = ap (λ (z : ℕ). z * m) e in omega arith
 
 -- a whole quotient is no larger than the number
 pub floor_size : (x w : ℤ) → pos 0 <ℤ w → unsigned_abs (floor x w) ≤ unsigned_abs x

@@ -60,6 +60,3 @@ amount_size a ws s =
     let one : 1 ≤ magnitude ws = omega (arith, ints) in
     let k = product_size a ws 1 s one in
     omega arith
-
-pub allocated_ok : (v : Result ℤ AllocationRefusal) (w : ℤ) (before after shares : List ℤ) → v ≡ Ok w → after ≡ shares → Allocated v (Ok tt) before after shares
-allocated_ok v w before after shares e h = rw e (refl, h)

@@ -8,13 +8,13 @@ ghost use Rattle.std.proofs.lemmas.List.FromFn.{length-map-range_with_len};
 ghost use Rattle.allocation.specs.Figures.{cumulative_whole, cumulative_rounded};
 
 use crate::refusal::AllocationRefusal;
-use crate::rule::{AllocationRule, examine};
+use crate::rule::{AllocationRule, Examined, examine};
 
 #[derive(Clone, Copy, PartialEq, Eq, Debug)]
 pub struct CumulativeRounding;
 
 // x ÷ w rounded half up.
-fn divide_half_up(x: i64, w: i64) -> i64
+pub fn divide_half_up(x: i64, w: i64) -> i64
     requires small { unsigned_abs x ≤ 4000000000000000000 }
     requires above { pos 0 <ℤ w }
     requires light { w ≤ℤ pos 2000000000 }
@@ -24,29 +24,30 @@ fn divide_half_up(x: i64, w: i64) -> i64
     (2 * x + w).div_euclid(2 * w)
 }
 
-// What weights that come to `sum` are owed together.
-fn owed(amount: i64, sum: i64, whole: i64) -> i64
-    requires small { unsigned_abs amount * unsigned_abs sum ≤ 4000000000000000000 }
-    requires above { pos 0 <ℤ whole }
-    requires light { whole ≤ℤ pos 2000000000 }
-    ensures value { result ≡ half_up (amount *ℤ sum) whole }
-    ensures bound { unsigned_abs result ≤ 4000000002000000000 }
-{
-    divide_half_up(amount * sum, whole)
-}
+impl Examined<'_> {
+    // What weights that come to `sum` are owed together.
+    fn owed(&self, sum: i64) -> i64
+        requires { unsigned_abs self.now.amount * unsigned_abs sum ≤ 4000000000000000000 }
+        ensures value { result ≡ half_up (self.now.amount *ℤ sum) self.now.whole }
+        ensures bound { unsigned_abs result ≤ 4000000002000000000 }
+    {
+        divide_half_up(self.amount * sum, self.whole)
+    }
 
-// Writes the rises, for weights that passed the examination with the sum `whole`.
-fn write_rises(amount: i64, weights: &[i64], whole: i64, out: &mut [i64])
-    requires { verdict amount weights.now (length out.old) ≡ Ok whole }
-    ensures { out.new ≡ cumulative amount weights.now }
-{
-    let mut sum: i64 = 0;
-    let mut before: i64 = 0;
-    for (i, w) in weights.iter().enumerate() {
-        sum += *w;
-        let figure = owed(amount, sum, whole);
-        out[i] = figure - before;
-        before = figure;
+    // Writes the rises: each place holds its weight, and then its share. After a walk over places and weights side by side nothing is known of the places.
+    fn write_rises(&self, out: &mut [i64])
+        requires { length out.old ≡ length self.now.weights.now }
+        ensures { out.new ≡ cumulative self.now.amount self.now.weights.now }
+    {
+        out.copy_from_slice(self.weights);
+        let mut sum: i64 = 0;
+        let mut before: i64 = 0;
+        for place in out.iter_mut() {
+            sum += *place;
+            let figure = self.owed(sum);
+            *place = figure - before;
+            before = figure;
+        }
     }
 }
 
@@ -59,6 +60,7 @@ impl AllocationRule for CumulativeRounding {
 
     ghost rounded = { λ rule a ws h. cumulative_rounded a ws h.above };
 
+    #[tactic(auto, using(crate::specs::Verdicts::admitted, crate::specs::Figures::first_shares))]
     fn allocate(
         &self,
         amount: i64,
@@ -68,9 +70,13 @@ impl AllocationRule for CumulativeRounding {
         ensures allocated { Allocated (verdict amount weights.now (length out.old)) result out.old out.new (cumulative amount weights.now) }
         ensures first_shares { result ≡ Ok tt → FirstShares amount weights.now out.new }
     {
-        let places = out.len();
-        let whole = examine(amount, weights, places)?;
-        write_rises(amount, weights, whole, out);
+        let whole = examine(amount, weights, out.len())?;
+        let request = Examined {
+            amount,
+            weights,
+            whole,
+        };
+        request.write_rises(out);
         Ok(())
     }
 }

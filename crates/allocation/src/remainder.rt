@@ -1,13 +1,13 @@
 // Largest remainder: each share is taken down, and the units left over go one each to the largest dropped fractions.
 ghost use Rattle.std.specs.Prelude.{◌≡◌, ◌*◌, ◌<◌, ◌≤◌, map, length, ℤ, pos, ◌+ℤ◌, ◌-ℤ◌, ◌<ℤ◌, Ok, slice_index_or, slice_set, unsigned_abs};
-ghost use Rattle.allocation.specs.Weights.{total};
 ghost use Rattle.allocation.specs.Refusals.{verdict};
 ghost use Rattle.allocation.specs.Rules.{Allocated};
 ghost use Rattle.allocation.specs.Remainder.{lower, dropped, largest, remainder, LargestFirst};
 ghost use Rattle.allocation.specs.Remainders.{remainder_counted, remainder_whole, remainder_rounded};
 
 use crate::refusal::AllocationRefusal;
-use crate::rule::{AllocationRule, MAX_WEIGHTS, examine};
+use crate::rule::{AllocationRule, Examined, MAX_WEIGHTS, examine, total_of};
+use std::cmp::Reverse;
 
 #[derive(Clone, Copy, PartialEq, Eq, Debug)]
 pub struct LargestRemainder;
@@ -18,13 +18,10 @@ fn largest_at(keys: &[i64]) -> usize
     ensures value { result ≡ largest keys.now }
     ensures within { result < length keys.now }
 {
-    let mut best = keys.len() - 1;
-    for k in (0..keys.len() - 1).rev() {
-        if keys[k] >= keys[best] {
-            best = k;
-        }
-    }
-    best
+    keys.iter()
+        .enumerate()
+        .max_by_key(|(place, key)| (**key, Reverse(*place)))
+        .map_or(0, |(place, _)| place)
 }
 
 // One unit more to the place of the largest key, which then has none.
@@ -40,53 +37,54 @@ fn hand_out_one(shares: &mut [i64], keys: &mut [i64])
     keys[at] = 0;
 }
 
-// A share taken down, and what it drops.
-fn take_down(amount: i64, weight: i64, whole: i64) -> (i64, i64)
-    requires small { unsigned_abs amount * unsigned_abs weight ≤ 4000000000000000000 }
-    requires above { pos 0 <ℤ whole }
-    ensures share { result.0 ≡ lower amount whole weight }
-    ensures size { unsigned_abs result.0 ≤ unsigned_abs amount * unsigned_abs weight }
-    ensures drop { result.1 ≡ dropped amount whole weight }
-{
-    let due = amount * weight;
-    (due.div_euclid(whole), due.rem_euclid(whole))
-}
-
-// Writes each share taken down and what it drops, and answers what is left of the amount.
-fn take_all_down(
-    amount: i64,
-    weights: &[i64],
-    whole: i64,
-    shares: &mut [i64],
-    keys: &mut [i64],
-) -> i64
-    requires pass { verdict amount weights.now (length shares.old) ≡ Ok whole }
-    requires room { length keys.old ≡ length weights.now }
-    ensures shares { shares.new ≡ map (lower amount whole) weights.now }
-    ensures keys { keys.new ≡ map (dropped amount whole) weights.now }
-    ensures left { result ≡ amount -ℤ total (map (lower amount whole) weights.now) }
-{
-    let mut left = amount;
-    for (i, w) in weights.iter().enumerate() {
-        let (share, key) = take_down(amount, *w, whole);
-        shares[i] = share;
-        keys[i] = key;
-        left -= share;
+// A share and what it drops go to two slices, so each has a function and a walk of its own.
+impl Examined<'_> {
+    // A share taken down.
+    fn take_down(&self, weight: i64) -> i64
+        requires { unsigned_abs self.now.amount * unsigned_abs weight ≤ 4000000000000000000 }
+        ensures { result ≡ lower self.now.amount self.now.whole weight }
+    {
+        (self.amount * weight).div_euclid(self.whole)
     }
-    left
-}
 
-// Writes the shares, for weights that passed the examination with the sum `whole`.
-fn write_shares(amount: i64, weights: &[i64], whole: i64, shares: &mut [i64])
-    requires { verdict amount weights.now (length shares.old) ≡ Ok whole }
-    ensures { shares.new ≡ remainder amount weights.now }
-{
-    let mut room = [0i64; MAX_WEIGHTS];
-    let keys = &mut room[0..weights.len()];
-    let mut left = take_all_down(amount, weights, whole, shares, keys);
-    while left > 0 {
-        hand_out_one(shares, keys);
-        left -= 1;
+    // What a share drops when it is taken down.
+    fn dropped_of(&self, weight: i64) -> i64
+        requires { unsigned_abs self.now.amount * unsigned_abs weight ≤ 4000000000000000000 }
+        ensures { result ≡ dropped self.now.amount self.now.whole weight }
+    {
+        (self.amount * weight).rem_euclid(self.whole)
+    }
+
+    // Writes each share taken down and what it drops. The weights are copied and turned in place: after a walk over places and weights side by side nothing is known of the places.
+    fn take_all_down(&self, shares: &mut [i64], keys: &mut [i64])
+        requires places { length shares.old ≡ length self.now.weights.now }
+        requires room { length keys.old ≡ length self.now.weights.now }
+        ensures shares { shares.new ≡ map (lower self.now.amount self.now.whole) self.now.weights.now }
+        ensures keys { keys.new ≡ map (dropped self.now.amount self.now.whole) self.now.weights.now }
+    {
+        shares.copy_from_slice(self.weights);
+        for share in shares.iter_mut() {
+            *share = self.take_down(*share);
+        }
+        keys.copy_from_slice(self.weights);
+        for key in keys.iter_mut() {
+            *key = self.dropped_of(*key);
+        }
+    }
+
+    // Writes the shares taken down, and then the units left over.
+    fn write_shares(&self, shares: &mut [i64])
+        requires { length shares.old ≡ length self.now.weights.now }
+        ensures { shares.new ≡ remainder self.now.amount self.now.weights.now }
+    {
+        // The shares stand in the caller's slice, so the keys have an array of their own.
+        let mut room = [0i64; MAX_WEIGHTS];
+        let keys = &mut room[0..self.weights.len()];
+        self.take_all_down(shares, keys);
+        let left = self.amount - total_of(shares);
+        for _ in 0..left {
+            hand_out_one(shares, keys);
+        }
     }
 }
 
@@ -99,6 +97,7 @@ impl AllocationRule for LargestRemainder {
 
     ghost rounded = { λ rule a ws h. remainder_rounded a ws h.above };
 
+    #[tactic(auto, using(crate::specs::Verdicts::admitted, crate::specs::Remainders::largest_remainders))]
     fn allocate(
         &self,
         amount: i64,
@@ -108,9 +107,13 @@ impl AllocationRule for LargestRemainder {
         ensures allocated { Allocated (verdict amount weights.now (length out.old)) result out.old out.new (remainder amount weights.now) }
         ensures largest_first { result ≡ Ok tt → LargestFirst amount weights.now out.new }
     {
-        let places = out.len();
-        let whole = examine(amount, weights, places)?;
-        write_shares(amount, weights, whole, out);
+        let whole = examine(amount, weights, out.len())?;
+        let request = Examined {
+            amount,
+            weights,
+            whole,
+        };
+        request.write_shares(out);
         Ok(())
     }
 }

@@ -35,21 +35,27 @@ pub trait AllocationRule {
     ghost rounded: { (rule : Self) (amount : ℤ) (weights : List ℤ) → Admissible amount weights → EachRounded amount weights (shares rule amount weights) };
 }
 
+// A request that passed the examination: the amount, its weights and their sum.
+#[derive(Clone, Copy)]
+pub(crate) struct Examined<'a> {
+    pub(crate) amount: i64,
+    pub(crate) weights: &'a [i64],
+    pub(crate) whole: i64,
+    ghost passed: { Admissible amount weights.now },
+    ghost sum: { whole ≡ total weights.now },
+}
+
 // The sum of the magnitudes of the weights.
 fn magnitude_of(weights: &[i64]) -> u128
     requires { length weights.now ≤ 64 }
     ensures { result ≡ magnitude weights.now }
 {
-    let mut sum: u128 = 0;
-    for w in weights {
-        sum += w.unsigned_abs() as u128;
-    }
-    sum
+    weights.iter().map(|w| u128::from(w.unsigned_abs())).sum()
 }
 
-// The sum of the weights, none of which is large.
-fn total_of(weights: &[i64]) -> i64
-    requires { magnitude weights.now ≤ 2000000000 }
+// The sum of the weights, which are small enough together for it to fit. A loop: in a chain no bound of a signed sum is known.
+pub fn total_of(weights: &[i64]) -> i64
+    requires { magnitude weights.now ≤ 9223372036854775807 }
     ensures { result ≡ total weights.now }
 {
     let mut sum: i64 = 0;
@@ -60,6 +66,7 @@ fn total_of(weights: &[i64]) -> i64
 }
 
 // The sum of the weights, or why the amount is not to be allocated over them to so many places.
+#[tactic(auto, using(std::proofs::lemmas::Bool::Decides::nat_tests, std::proofs::lemmas::Int::ints), unfolding(crate::specs::Refusals::verdict))]
 pub fn examine(amount: i64, weights: &[i64], places: usize) -> Result<i64, AllocationRefusal>
     ensures { result ≡ verdict amount weights.now places }
 {
@@ -68,7 +75,10 @@ pub fn examine(amount: i64, weights: &[i64], places: usize) -> Result<i64, Alloc
         return Err(AllocationRefusal::BadCount);
     }
     let magnitude = magnitude_of(weights);
-    if amount < 0 || magnitude > MAX_MAGNITUDE || amount as u128 * magnitude > MAX_PRODUCT {
+    if amount < 0
+        || magnitude > MAX_MAGNITUDE
+        || u128::from(amount.unsigned_abs()) * magnitude > MAX_PRODUCT
+    {
         return Err(AllocationRefusal::OutOfRange);
     }
     let sum = total_of(weights);

@@ -7,6 +7,7 @@ use Rattle.events.specs.Outcomes.{Outcome, accepted, refuse_if}
 use Rattle.inputs.specs.States.{State}
 use Rattle.inputs.specs.Calls.{bad_hour, hour_place, member}
 use Rattle.inputs.specs.Asking.{found_or, of_found, is_settled}
+use Rattle.inputs.proofs.Refusals.{found}
 use Rattle.settlement.specs.declared.line.Line.{Line}
 use Rattle.settlement.specs.Sums.{Meaning}
 use Rattle.settlement.specs.Settlement.{zero_line, line_at, defined_lines, nobody_to_charge, defined_total}
@@ -58,10 +59,6 @@ module _ (t : Meaning) (b : BookState) (hour place : ℕ) (at : hour_place hour 
       )
 
 -- ---- a member's line
-found : (o : Option ℕ) (fault : BookFault) (m : ℕ) → found_or o fault ≡ Ok m → o ≡ Some m
-found None fault m e = let z : ◌≡◌ {A = ℕ} 0 1 = cc in absurd (omega arith)
-found (Some x) fault m e = cc
-
 not_found : (o : Option ℕ) (fault other : BookFault) (f : ℕ → Result Line BookFault) → found_or o fault ≡ Err other → of_found o fault f ≡ Err other
 not_found None fault other f e = cc
 not_found (Some x) fault other f e = let z : ◌≡◌ {A = ℕ} 0 1 = cc in absurd (omega arith)

@@ -36,7 +36,7 @@ book_over s rows = record { state = s; lines = λ h m. cond (settled_at s h) (li
 
 -- what the book's tables stand for
 unfoldable pub book_of : Ledger → BookState
-book_of l = book_over (state_of l.inputs) l.lines
+book_of l = book_over (state_of l.inputs) l.lines.rows
 
 -- an input entered: an hour that this clears has zero lines, and the lines of the others stay
 abbrev pub entered : BookState → Call → BookState

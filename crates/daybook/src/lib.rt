@@ -6,3 +6,4 @@ pub mod call;
 pub mod keeping;
 pub mod ledger;
 pub mod replay;
+pub mod table;

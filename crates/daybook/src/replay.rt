@@ -22,6 +22,7 @@ pub fn replay<R: AllocationRule>(
     let mut book = DayBook::open(rule);
     for (place, call) in calls.iter().enumerate() {
         let answer = book.apply(*call);
+        // By index, since through `get_mut` it is not known what the list holds after the write.
         if place < answers.len() {
             answers[place] = answer;
         }

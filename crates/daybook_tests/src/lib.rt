@@ -21,9 +21,9 @@ mod tests {
     // for 1,000 kWh in hour 18, and a demand resource D1 of BB; both hours are settled.
     fn settled_day() -> Book {
         let mut book = DayBook::open(CumulativeRounding);
-        let _ = book.enter(Call::Enrol { code: b"AA" });
-        let _ = book.enter(Call::Enrol { code: b"BB" });
-        let _ = book.enter(Call::Enrol { code: b"CC" });
+        for code in [b"AA", b"BB", b"CC"] {
+            let _ = book.enter(Call::Enrol { code });
+        }
         enter_resources(&mut book);
         for hour in 18..20u64 {
             enter_hour(&mut book, hour);
@@ -55,9 +55,9 @@ mod tests {
             synchronized: 1001,
             non_synchronized: 0,
         });
-        let _ = book.enter(load(hour, b"AA", 30_000));
-        let _ = book.enter(load(hour, b"BB", 30_000));
-        let _ = book.enter(load(hour, b"CC", 30_000));
+        for member in [b"AA", b"BB", b"CC"] {
+            let _ = book.enter(load(hour, member, 30_000));
+        }
     }
 
     fn load(hour: u64, member: &[u8], kwh: u64) -> Call<'_> {
@@ -76,8 +76,27 @@ mod tests {
         }
     }
 
+    // CC sells BB 100 kWh.
+    fn trade(hour: u64) -> Call<'static> {
+        Call::SetTrade {
+            hour,
+            seller: b"CC",
+            buyer: b"BB",
+            kwh: 100,
+        }
+    }
+
     fn begin(start: u64) -> Call<'static> {
         Call::Happen(EventCall::Begin { start })
+    }
+
+    // The generator's output in MW.
+    fn read(edge: Edge, output: f32) -> Call<'static> {
+        Call::Happen(EventCall::Read {
+            resource: b"G1",
+            edge,
+            sample: Sample::Output(output),
+        })
     }
 
     fn close(end: u64) -> Call<'static> {
@@ -115,13 +134,7 @@ mod tests {
     #[test]
     fn trade_clears_its_hour(rt: HostRuntime) {
         let mut book = settled_day();
-        let trade = Call::SetTrade {
-            hour: 18,
-            seller: b"CC",
-            buyer: b"BB",
-            kwh: 100,
-        };
-        assert_eq!(rt; book.enter(trade), Ok(Answer::Cleared(1)));
+        assert_eq!(rt; book.enter(trade(18)), Ok(Answer::Cleared(1)));
         assert_eq!(rt; book.settle(18), Ok(1150));
         assert_eq!(rt; clearing_charge(&book, 18, b"AA"), Ok(333));
         assert_eq!(rt; clearing_charge(&book, 18, b"BB"), Ok(235));
@@ -193,16 +206,8 @@ mod tests {
     fn short_day() -> Book {
         let mut book = settled_day();
         let _ = book.enter(begin(1077));
-        let _ = book.enter(Call::Happen(EventCall::Read {
-            resource: b"G1",
-            edge: Edge::Start,
-            sample: Sample::Output(2.0),
-        }));
-        let _ = book.enter(Call::Happen(EventCall::Read {
-            resource: b"G1",
-            edge: Edge::End,
-            sample: Sample::Output(2.5),
-        }));
+        let _ = book.enter(read(Edge::Start, 2.0));
+        let _ = book.enter(read(Edge::End, 2.5));
         let _ = book.enter(close(1087));
         book
     }
@@ -223,13 +228,7 @@ mod tests {
         let mut book = short_day();
         // nothing is assigned in hour 19, so nobody has an obligation there
         assert_eq!(rt; book.settle(19), Err(BookFault::NobodyToCharge));
-        let trade = Call::SetTrade {
-            hour: 19,
-            seller: b"CC",
-            buyer: b"BB",
-            kwh: 100,
-        };
-        assert_eq!(rt; book.enter(trade), Ok(Answer::Cleared(0)));
+        assert_eq!(rt; book.enter(trade(19)), Ok(Answer::Cleared(0)));
         assert_eq!(rt; book.settle(19), Ok(1400));
         assert_eq!(rt; refund_net(&book, 19, b"AA"), Ok((1400, 0)));
         assert_eq!(rt; refund_net(&book, 19, b"CC"), Ok((0, 1400)));
@@ -250,15 +249,12 @@ mod tests {
         });
         let _ = book.enter(pool(18, 1000));
         assert_eq!(rt; book.settle(18), Ok(1150));
-        assert_eq!(rt; obligation(book.line(18, b"AA")), 334);
-        assert_eq!(rt; obligation(book.line(18, b"BB")), 333);
-        assert_eq!(rt; obligation(book.line(18, b"CC")), 333);
+        assert_eq!(rt; obligation(book.line(18, b"AA")), Ok(334));
+        assert_eq!(rt; obligation(book.line(18, b"BB")), Ok(333));
+        assert_eq!(rt; obligation(book.line(18, b"CC")), Ok(333));
     }
 
-    fn obligation(line: Result<Line, BookFault>) -> i64 {
-        match line {
-            Ok(line) => line.obligation,
-            Err(_) => -1,
-        }
+    fn obligation(line: Result<Line, BookFault>) -> Result<i64, BookFault> {
+        Ok(line?.obligation)
     }
 }

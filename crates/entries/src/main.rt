@@ -63,71 +63,59 @@ const CALLS: [Call<'static>; 13] = [
     Call::Enrol { code: b"aa" },
 ];
 
-#[derive(Clone, Copy)]
-enum Numbered {
-    Answer(usize),
-    Refusal(u8),
-}
+// An answer, or the number of the refusal.
+#[derive(Drop)]
+struct Response<T>(Result<T, BookFault>);
 
-impl fmt::Display for Numbered {
+impl<T: fmt::Display> fmt::Display for Response<T> {
     fn fmt<W: fmt::Write>(&self, f: &mut fmt::Formatter<W>) -> fmt::Result {
-        match self {
-            Numbered::Answer(number) => write!(f, "{number}"),
-            Numbered::Refusal(number) => write!(f, "refused {number}"),
+        match &self.0 {
+            Ok(answer) => write!(f, "{answer}"),
+            Err(fault) => write!(f, "refused {fault}"),
         }
     }
 }
 
-// An answer's number, or the number of the refusal.
-fn number(answer: Result<usize, BookFault>) -> Numbered {
-    match answer {
-        Ok(number) => Numbered::Answer(number),
-        Err(fault) => Numbered::Refusal(fault.number()),
-    }
-}
+// What an accepted call answers, in words.
+#[derive(Drop)]
+struct Accepted(Answer);
 
-fn print_answer(
-    rt: &impl Print,
-    number: usize,
-    answer: Result<Answer, BookFault>,
-) -> io::Result<()> {
-    match answer {
-        Ok(Answer::Place(place)) => println!(rt; "{number}: place {place}"),
-        Ok(Answer::Cleared(hours)) => println!(rt; "{number}: cleared {hours}"),
-        Err(fault) => {
-            let refusal = fault.number();
-            println!(rt; "{number}: refused {refusal}")
+impl fmt::Display for Accepted {
+    fn fmt<W: fmt::Write>(&self, f: &mut fmt::Formatter<W>) -> fmt::Result {
+        match self.0 {
+            Answer::Place(place) => write!(f, "place {place}"),
+            Answer::Cleared(hours) => write!(f, "cleared {hours}"),
         }
     }
 }
 
 // A second trade and a reading of a second event, each by its own method.
 fn correct(rt: &impl Print, day: &mut Tables) -> io::Result<()> {
-    let trade = number(day.set_trade(18, b"AA", b"BB", 50));
-    let begin = number(day.begin_event(1200));
-    let reading = number(day.read(b"G1", Edge::End, Sample::Output(100.5)));
+    let trade = Response(day.set_trade(18, b"AA", b"BB", 50));
+    let begin = Response(day.begin_event(1200));
+    let reading = Response(day.read(b"G1", Edge::End, Sample::Output(100.5)));
     println!(rt; "trade {trade}, begin {begin}, reading {reading}")
 }
 
 // What the questions answer, refusals as their numbers.
 fn print_questions(rt: &impl Print, day: &Tables) -> io::Result<()> {
-    let members = day.member_count();
-    let resources = day.resource_count();
-    let trades = day.trade_count();
-    let events = day.closed_events().len();
     println!(rt;
-        "{members} members, {resources} resources, {trades} trades, {events} closed events"
+        "{} members, {} resources, {} trades, {} closed events",
+        day.member_count(),
+        day.resource_count(),
+        day.trade_count(),
+        day.closed_events().len()
     )?;
-    let member = number(day.member_place(b"BB"));
-    let resource = number(day.resource_place(b"G2"));
+    let member = Response(day.member_place(b"BB"));
+    let resource = Response(day.resource_place(b"G2"));
     println!(rt; "BB at {member}, G2 {resource}")
 }
 
 fn main(rt: HostRuntime) -> io::Result<()> {
     let mut day = Tables::open();
-    for (i, call) in CALLS.iter().enumerate() {
-        let answer = day.apply(*call);
-        print_answer(&rt, i + 1, answer)?;
+    for (number, call) in (1..).zip(&CALLS) {
+        let response = Response(day.apply(*call).map(Accepted));
+        println!(rt; "{number}: {response}")?;
     }
     correct(&rt, &mut day)?;
     print_questions(&rt, &day)

@@ -1,7 +1,5 @@
 -- A reading that is refused, and one that is taken.
 use Rattle.std.proofs.Common.{◌≡◌, ℕ, ◌+◌, ◌≤◌, List, [], ◌∷◌, length, Some, None, Ok, Err, Option, Result, refl, ap, ◌∙◌, arith, length-append, Bor}
-use Rattle.rolls.specs.declared.roll.Roll.{Roll}
-use Rattle.rolls.specs.Items.{items}
 use Rattle.rolls.proofs.Pushes.{Pushed}
 use Rattle.events.specs.declared.fault.BookFault.{BookFault}
 use Rattle.events.specs.declared.resource.Resource.{Resource}
@@ -32,6 +30,6 @@ module _ (rs : List Resource) (es : List Event) (st : EventState) (start : ℕ) 
   reading_taken kw left q l = rw (reads, l, running, found, q) (refl, refl)
 
 -- a push into the closed events keeps within their places
-pub few_closed : (o : Option ℕ) (a b : Roll Event 4) (e : Event) → length (items a) ≤ 4 → Pushed o a b e → length (items b) + 0 ≤ 4
+pub few_closed : (o : Option ℕ) (a b : List Event) (e : Event) → length a ≤ 4 → Pushed 4 o a b e → length b + 0 ≤ 4
 few_closed None a b e h l = rw l.1 (omega arith)
-few_closed (Some i) a b e h l = let p = ap length l.2 ∙ length-append (items a) (e ∷ []) in let x = l.0 in let y = l.1 in omega arith
+few_closed (Some i) a b e h l = let p = ap length l.2 ∙ length-append a (e ∷ []) in let x = l.0 in let y = l.1 in omega arith

@@ -1,2 +1,1 @@
-pub mod LastEnds
 pub mod Decisions

@@ -1,6 +1,5 @@
 -- The events of a day and what each call does to them.
 use Rattle.std.specs.Prelude.{ℕ, ◌||◌, List, [], ◌∷◌, ◌++◌, length, replicate, Some, None, Ok, Err, fold, Option, Result, nat_le, nat_lt, slice_index_or, slice_set}
-use Rattle.rolls.specs.Items.{items}
 use Rattle.events.specs.declared.fault.BookFault.{BookFault}
 use Rattle.events.specs.declared.fault.BookFault.TheVariants.{NoSuchResource, EventRuns, NoEventRuns, BadMinute, EventsFull}
 use Rattle.events.specs.declared.resource.Resource.{Resource}
@@ -29,7 +28,7 @@ running_of (Running start) readings = Some (record { start = start; readings = r
 
 -- what the tables stand for
 abbrev pub day_events : Events → DayEvents
-day_events e = record { closed = items e.closed; running = running_of e.state e.readings }
+day_events e = record { closed = e.closed; running = running_of e.state e.readings }
 
 abbrev pub silent : Reading
 silent = record { start = None; end = None }

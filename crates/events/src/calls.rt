@@ -1,12 +1,11 @@
 // The calls that begin, read, close and cancel an event.
 ghost use Rattle.std.specs.Prelude.{◌≡◌, ◌<◌, [], None};
-ghost use Rattle.rolls.specs.Items.{items};
 ghost use Rattle.events.specs.Outcomes.{Outcome};
 ghost use Rattle.events.specs.DayEvents.{day_events, last_end, with_reading, event_refusal, after_event};
 
 use crate::event::{Edge, Event, EventState, Events, Reading, RunningEvent};
 use crate::fault::BookFault;
-use crate::resource::{Resource, resource_named};
+use crate::resource::Resource;
 use crate::sample::Sample;
 use rolls::limits::{MAX_EVENTS, MAX_RESOURCES, MINUTES_PER_DAY};
 use rolls::roll::Roll;
@@ -73,12 +72,12 @@ impl Events {
 
     // The end of the last closed event, or the start of the day.
     fn last_end(&self) -> u64
-        ensures { result ≡ last_end (items self.now.closed) }
+        ensures { result ≡ last_end self.now.closed }
     {
-        match self.closed.as_slice().last() {
-            Some(event) => u64::from(event.end),
-            None => 0,
-        }
+        self.closed
+            .as_slice()
+            .last()
+            .map_or(0, |event| u64::from(event.end))
     }
 
     // Enters a reading of the running event at the resource's place.
@@ -101,10 +100,10 @@ impl Events {
         call: EventCall<'_>,
     ) -> Result<(), BookFault>
         ensures { Outcome
-            (event_refusal (items resources.now) (day_events self.old).closed (day_events self.old).running call.entry)
+            (event_refusal resources.now (day_events self.old).closed (day_events self.old).running call.entry)
             tt
             (day_events self.old)
-            (after_event (items resources.now) (day_events self.old).closed (day_events self.old).running call.entry)
+            (after_event resources.now (day_events self.old).closed (day_events self.old).running call.entry)
             result
             (day_events self.new) }
     {
@@ -117,6 +116,7 @@ impl Events {
                 if start >= MINUTES_PER_DAY || start < self.last_end() {
                     return Err(BookFault::BadMinute);
                 }
+                // The minute was bounded just above, so the cast loses nothing; `try_from` would have an error to answer for.
                 self.readings = [SILENT; MAX_RESOURCES];
                 self.state = EventState::Running {
                     start: start as u16,
@@ -132,7 +132,7 @@ impl Events {
                     sample,
                 },
             ) => {
-                let Some(place) = resource_named(resources, resource) else {
+                let Some(place) = resources.place_named(resource) else {
                     return Err(BookFault::NoSuchResource);
                 };
                 let kind = resources.as_slice()[place].kind;
@@ -146,14 +146,14 @@ impl Events {
                 }
                 let readings = self.readings;
                 self.state = EventState::Quiet;
-                match self.closed.push(Event {
+                let event = Event {
                     start,
                     end: end as u16,
                     readings,
-                }) {
-                    Some(_) => Ok(()),
-                    None => Err(BookFault::EventsFull),
-                }
+                };
+                // There is a place: an event begins only while fewer than all are taken.
+                self.closed.push(event).ok_or(BookFault::EventsFull)?;
+                Ok(())
             }
             (EventState::Running { .. }, EventCall::Cancel) => {
                 self.state = EventState::Quiet;

@@ -1,6 +1,5 @@
 // The events of a day: those that are closed, and the one that runs.
 ghost use Rattle.std.specs.Prelude.{ℕ, ◌+◌, ◌<◌, ◌≤◌, length, slice_index_or};
-ghost use Rattle.rolls.specs.Items.{items};
 ghost use Rattle.events.specs.States.{running_count, running_start, no_event};
 
 use rolls::limits::{MAX_EVENTS, MAX_RESOURCES};
@@ -35,6 +34,8 @@ pub struct RunningEvent {
     pub readings: [Reading; MAX_RESOURCES],
 }
 
+// Whether an event runs. No option of a running event: a call is decided by one match on this state and the call's
+// kind together, so the state is plain numbers, and the readings stand in a table beside it.
 #[derive(Clone, Copy, PartialEq, Eq, Debug)]
 pub enum EventState {
     Quiet,
@@ -48,8 +49,8 @@ pub struct Events {
     pub(crate) state: EventState,
     pub(crate) readings: [Reading; MAX_RESOURCES],
     pub(crate) closed: Roll<Event, MAX_EVENTS>,
-    ghost few: { length (items closed) + running_count state ≤ 4 },
-    ghost starts: { (k : ℕ) → k < length (items closed) → (slice_index_or (items closed) k no_event).start ≤ 1439 },
-    ghost ends: { (k : ℕ) → k < length (items closed) → (slice_index_or (items closed) k no_event).end ≤ 1440 },
+    ghost few: { length closed + running_count state ≤ 4 },
+    ghost starts: { (k : ℕ) → k < length closed → (slice_index_or closed k no_event).start ≤ 1439 },
+    ghost ends: { (k : ℕ) → k < length closed → (slice_index_or closed k no_event).end ≤ 1440 },
     ghost runs: { running_start state ≤ 1439 },
 }

@@ -1,58 +1,52 @@
 // Why the day book refuses a call.
-ghost use Rattle.std.specs.Prelude.{◌≡◌};
+ghost use Rattle.std.specs.Prelude.{◌≡◌, Some, decimal};
 ghost use Rattle.events.specs.Faults.{number};
 
+use std::fmt;
+
+// Each has the number by which it is known outside.
 #[derive(Clone, Copy, PartialEq, Eq, Debug)]
 pub enum BookFault {
     // A code that is not 1 to 6 capital letters or digits.
-    BadCode,
+    BadCode = 1,
     // A code that stands on the roll already.
-    CodeTaken,
-    RollFull,
-    NoSuchMember,
-    NoSuchResource,
+    CodeTaken = 2,
+    RollFull = 3,
+    NoSuchMember = 4,
+    NoSuchResource = 5,
     // An hour outside 1 to 24.
-    BadHour,
+    BadHour = 6,
     // A quantity of energy above its bound.
-    TooMuchEnergy,
+    TooMuchEnergy = 7,
     // A price, sum of prices or cost above its bound.
-    TooMuchMoney,
+    TooMuchMoney = 8,
     // One member on both sides of a trade.
-    SameMember,
-    TradesFull,
-    EventRuns,
-    NoEventRuns,
+    SameMember = 9,
+    TradesFull = 10,
+    EventRuns = 11,
+    NoEventRuns = 12,
     // A minute at which an event cannot start or end.
-    BadMinute,
-    EventsFull,
+    BadMinute = 13,
+    EventsFull = 14,
     // A sample of the other kind of resource, no number, or out of range.
-    BadSample,
+    BadSample = 15,
     // Reserve with no load to carry it, or refunds with no member to pay them to.
-    NobodyToCharge,
+    NobodyToCharge = 16,
 }
 
 impl BookFault {
-    // The number by which the refusal is known outside.
+    // Its number.
     pub fn number(self) -> u8
         ensures { result ≡ number self }
     {
-        match self {
-            BookFault::BadCode => 1,
-            BookFault::CodeTaken => 2,
-            BookFault::RollFull => 3,
-            BookFault::NoSuchMember => 4,
-            BookFault::NoSuchResource => 5,
-            BookFault::BadHour => 6,
-            BookFault::TooMuchEnergy => 7,
-            BookFault::TooMuchMoney => 8,
-            BookFault::SameMember => 9,
-            BookFault::TradesFull => 10,
-            BookFault::EventRuns => 11,
-            BookFault::NoEventRuns => 12,
-            BookFault::BadMinute => 13,
-            BookFault::EventsFull => 14,
-            BookFault::BadSample => 15,
-            BookFault::NobodyToCharge => 16,
-        }
+        self as u8
+    }
+}
+
+impl fmt::Display for BookFault {
+    ghost output = { λ fault. Some (decimal (number fault)) };
+
+    fn fmt<W: fmt::Write>(&self, f: &mut fmt::Formatter<W>) -> fmt::Result {
+        write!(f, "{}", self.number())
     }
 }

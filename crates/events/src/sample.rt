@@ -10,7 +10,8 @@ const MAX_MEGAWATTS: f32 = 10000.0;
 
 const KILOWATTS_PER_MEGAWATT: f32 = 1000.0;
 
-// What a meter says: an output or a draw in MW, or nothing.
+// What a meter says: an output or a draw in MW, or nothing. Silence is a case beside the two, not the lack of one:
+// it is accepted of both kinds of resources, a number only of its own.
 #[derive(Clone, Copy)]
 pub enum Sample {
     Output(f32),
@@ -36,10 +37,10 @@ impl Sample {
     {
         match (kind, self) {
             (_, Sample::Silent) => Ok(None),
-            (ResourceKind::Generator, Sample::Output(megawatts)) => kilowatts(megawatts),
-            (ResourceKind::Demand, Sample::Draw(megawatts)) => kilowatts(megawatts),
-            (ResourceKind::Generator, Sample::Draw(_)) => Err(BookFault::BadSample),
-            (ResourceKind::Demand, Sample::Output(_)) => Err(BookFault::BadSample),
+            (ResourceKind::Generator, Sample::Output(megawatts))
+            | (ResourceKind::Demand, Sample::Draw(megawatts)) => kilowatts(megawatts),
+            (ResourceKind::Generator, Sample::Draw(_))
+            | (ResourceKind::Demand, Sample::Output(_)) => Err(BookFault::BadSample),
         }
     }
 }

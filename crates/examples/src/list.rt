@@ -1,6 +1,8 @@
 // The list of worked examples.
-ghost use Rattle.std.specs.List.{AllByRecursion};
+ghost use Rattle.std.specs.Prelude.{All};
 ghost use Rattle.examples.specs.Examples.{Stands};
+
+use std::fmt;
 
 // An amount and weights, with the shares that each rule gives.
 #[derive(Clone, Copy)]
@@ -11,11 +13,25 @@ pub struct AllocationExample<'a> {
     pub remainder: &'a [i64],
 }
 
+impl fmt::Display for AllocationExample<'_> {
+    fn fmt<W: fmt::Write>(&self, f: &mut fmt::Formatter<W>) -> fmt::Result {
+        write!(f, "{} by {:?}: ", self.amount, self.weights)?;
+        write!(f, "cumulative {:?}, ", self.cumulative)?;
+        write!(f, "largest remainder {:?}", self.remainder)
+    }
+}
+
 // The bits of a 32-bit float in MW, with the whole kW that it is read as.
 #[derive(Clone, Copy)]
 pub struct SampleExample {
     pub bits: u32,
     pub kilowatts: u32,
+}
+
+impl fmt::Display for SampleExample {
+    fn fmt<W: fmt::Write>(&self, f: &mut fmt::Formatter<W>) -> fmt::Result {
+        write!(f, "sample {:08X}: {} kW", self.bits, self.kilowatts)
+    }
 }
 
 #[derive(Clone, Copy)]
@@ -24,9 +40,18 @@ pub enum WorkedExample<'a> {
     Sample(SampleExample),
 }
 
+impl fmt::Display for WorkedExample<'_> {
+    fn fmt<W: fmt::Write>(&self, f: &mut fmt::Formatter<W>) -> fmt::Result {
+        match self {
+            WorkedExample::Allocation(allocation) => write!(f, "{allocation}"),
+            WorkedExample::Sample(sample) => write!(f, "{sample}"),
+        }
+    }
+}
+
 // The examples, each of which the definitions bear out.
 pub fn worked_examples() -> [WorkedExample<'static>; 4]
-    ensures { AllByRecursion Stands result }
+    ensures { All Stands result }
 {
     [
         WorkedExample::Allocation(AllocationExample {

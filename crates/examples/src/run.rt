@@ -8,24 +8,23 @@ use events::sample::Sample;
 use std::num::f32_from_bits_with_nan;
 
 // Whether the rule accepts the example and gives these shares.
-fn gives<R: AllocationRule>(rule: &R, amount: i64, weights: &[i64], shares: &[i64]) -> bool {
-    let count = weights.len();
+fn gives<R: AllocationRule>(rule: &R, example: &AllocationExample<'_>, shares: &[i64]) -> bool {
+    // Room of fixed size, as a caller with no heap has it.
     let mut room = [0i64; MAX_WEIGHTS];
-    if count > MAX_WEIGHTS {
+    let Some(out) = room.get_mut(..example.weights.len()) else {
         return false;
-    }
-    let out = &mut room[0..count];
-    allocate_by(rule, amount, weights, out).is_ok() && *out == *shares
+    };
+    allocate_by(rule, example.amount, example.weights, out).is_ok() && *out == *shares
 }
 
-fn allocates(e: &AllocationExample<'_>) -> bool {
-    gives(&CumulativeRounding, e.amount, e.weights, e.cumulative)
-        && gives(&LargestRemainder, e.amount, e.weights, e.remainder)
+fn allocates(example: &AllocationExample<'_>) -> bool {
+    gives(&CumulativeRounding, example, example.cumulative)
+        && gives(&LargestRemainder, example, example.remainder)
 }
 
-fn reads(e: &SampleExample) -> bool {
-    let sample = Sample::Output(f32_from_bits_with_nan(e.bits));
-    sample.reading(ResourceKind::Generator) == Ok(Some(e.kilowatts))
+fn reads(example: &SampleExample) -> bool {
+    let sample = Sample::Output(f32_from_bits_with_nan(example.bits));
+    sample.reading(ResourceKind::Generator) == Ok(Some(example.kilowatts))
 }
 
 // Whether the code gives what the example says.

@@ -1,15 +1,19 @@
 // Which hours of the day are settled.
-ghost use Rattle.std.specs.Prelude.{◌≡◌, ◌<◌, true, false, get_or, replicate, if◌then◌else◌, count_by, slice_index_or, slice_set};
+ghost use Rattle.std.specs.Prelude.{◌≡◌, length, true, false, replicate, if◌then◌else◌, count_by, slice_index_or, slice_set};
 
+use rolls::hour::HourPlace;
 use rolls::limits::HOURS;
+use std::mem;
 
 // Hour ending h stands at place h - 1.
 #[derive(Clone, Copy)]
 pub struct SettledHours {
     flags: [bool; HOURS],
+    ghost whole: { length flags ≡ 24 },
 }
 
 impl SettledHours {
+    // No hour settled.
     pub fn none() -> SettledHours
         ensures { result.flags ≡ replicate 24 false }
     {
@@ -18,30 +22,26 @@ impl SettledHours {
         }
     }
 
-    pub fn is_settled(&self, place: usize) -> bool
-        requires { place < 24 }
-        ensures { result ≡ slice_index_or self.now.flags place false }
+    // Whether an hour is settled.
+    pub fn is_settled(&self, hour: HourPlace) -> bool
+        ensures { result ≡ slice_index_or self.now.flags hour.place false }
     {
-        self.flags[place]
+        self.flags[hour.index()]
     }
 
     // Marks an hour as settled.
-    pub fn settle(&mut self, hour: usize)
-        requires { hour < 24 }
-        ensures { self.new.flags ≡ slice_set self.old.flags hour true }
+    pub fn settle(&mut self, hour: HourPlace)
+        ensures { self.new.flags ≡ slice_set self.old.flags hour.place true }
     {
-        self.flags[hour] = true;
+        self.flags[hour.index()] = true;
     }
 
     // Clears an hour, and answers how many settled hours that cleared: one or none.
-    pub fn clear(&mut self, hour: usize) -> usize
-        requires { hour < 24 }
-        ensures cleared { result ≡ (if get_or self.old.flags hour false then 1 else 0) }
-        ensures flags { self.new.flags ≡ slice_set self.old.flags hour false }
+    pub fn clear(&mut self, hour: HourPlace) -> usize
+        ensures cleared { result ≡ (if slice_index_or self.old.flags hour.place false then 1 else 0) }
+        ensures flags { self.new.flags ≡ slice_set self.old.flags hour.place false }
     {
-        let was_settled = self.flags[hour];
-        self.flags[hour] = false;
-        if was_settled { 1 } else { 0 }
+        usize::from(mem::replace(&mut self.flags[hour.index()], false))
     }
 
     // Clears every hour, and answers how many settled hours that cleared.
@@ -49,12 +49,7 @@ impl SettledHours {
         ensures cleared { result ≡ count_by (λ b. b) self.old.flags }
         ensures flags { self.new.flags ≡ replicate 24 false }
     {
-        let mut cleared = 0;
-        for flag in self.flags {
-            if flag {
-                cleared += 1;
-            }
-        }
+        let cleared = self.flags.iter().filter(|settled| **settled).count();
         self.flags = [false; HOURS];
         cleared
     }

@@ -1,10 +1,8 @@
 -- What a push into the roll of members or of resources keeps.
-use Rattle.std.proofs.Common.{◌≡◌, ℕ, Bool, true, false, is_some, Some, None, Option, sym, refl, ◌∙◌, arith}
+use Rattle.std.proofs.Common.{◌≡◌, ℕ, Bool, List, true, false, is_some, Some, None, Option, sym, refl, ◌∙◌, arith}
 use Rattle.std.specs.Str.{bytes_eq}
 use Rattle.rolls.specs.declared.code.Code.{Code}
-use Rattle.rolls.specs.declared.roll.Roll.{Roll}
-use Rattle.rolls.specs.Items.{items}
-use Rattle.rolls.specs.Places.{place_by}
+use Rattle.std.specs.Prelude.{position}
 use Rattle.rolls.proofs.Keys.{apart_push, code_matches}
 use Rattle.rolls.proofs.Pushes.{Pushed, pushed_by}
 use Rattle.events.specs.declared.resource.Resource.{Resource}
@@ -15,10 +13,10 @@ pub not_found : (o : Option ℕ) (t : Bool) → t ≡ is_some o → t ≡ false 
 not_found None t e f = refl
 not_found (Some i) t e f = let z : true ≡ false = sym e ∙ f in let y : ◌≡◌ {A = ℕ} 0 1 = cc in absurd (omega arith)
 
-pub members_apart : (o : Option ℕ) (a b : Roll Code 16) (x : Code) → Pushed o a b x → place_by (λ y. bytes_eq y.signs x.signs) (items a) ≡ None
-    → MembersApart (items a) → MembersApart (items b)
-members_apart o a b x p none h = pushed_by o a b x p MembersApart h (apart_push _ (items a) x x h none (λ j e. sym (code_matches x j e)))
+pub members_apart : (o : Option ℕ) (a b : List Code) (x : Code) → Pushed 16 o a b x → position (λ y. bytes_eq y.signs x.signs) a ≡ None
+    → MembersApart a → MembersApart b
+members_apart o a b x p none h = pushed_by 16 o a b x p MembersApart h (apart_push _ a x x h none (λ j e. sym (code_matches x j e)))
 
-pub resources_apart : (o : Option ℕ) (a b : Roll Resource 16) (x : Resource) → Pushed o a b x → place_by (λ y. bytes_eq y.code.signs x.code.signs) (items a) ≡ None
-    → ResourcesApart (items a) → ResourcesApart (items b)
-resources_apart o a b x p none h = pushed_by o a b x p ResourcesApart h (apart_push _ (items a) x x.code h none (λ j e. sym (code_matches x.code j e)))
+pub resources_apart : (o : Option ℕ) (a b : List Resource) (x : Resource) → Pushed 16 o a b x → position (λ y. bytes_eq y.code.signs x.code.signs) a ≡ None
+    → ResourcesApart a → ResourcesApart b
+resources_apart o a b x p none h = pushed_by 16 o a b x p ResourcesApart h (apart_push _ a x x.code h none (λ j e. sym (code_matches x.code j e)))

@@ -8,7 +8,7 @@ use Rattle.events.specs.declared.fault.BookFault.TheVariants.{BadCode, CodeTaken
 use Rattle.events.specs.declared.resource.Resource.{Resource}
 use Rattle.events.specs.declared.calls.EventCall.{EventCall}
 use Rattle.events.specs.declared.calls.EventCall.TheVariants.{Begin, Read, Close, Cancel}
-use Rattle.events.specs.Outcomes.{accepted, refuse_if}
+use Rattle.events.specs.Outcomes.{accepted, refuse_if, Outcome}
 use Rattle.events.specs.Resources.{place_named}
 use Rattle.events.specs.declared.event.Reading.{Reading}
 use Rattle.events.specs.declared.event.RunningEvent.{RunningEvent}
@@ -177,6 +177,10 @@ after s (Assign hour name assignment) =
 after s (SetTrade hour seller buyer kwh) =
     hour_cleared (hour - 1) (with_inputs s (with_traded s.inputs (with_quantity s.inputs.traded (key_of s hour seller.now buyer.now) kwh)))
 after s (Happen call) = event_clears call (with_events s (after_event s.inputs.resources s.inputs.events s.running call))
+
+-- a call is refused by the first refusal that applies and leaves what was, or answers and leaves what an accepted call does
+abbrev pub Taken : State → Call → Result ℕ BookFault → State → Type 0
+Taken s call result left = Outcome (refusal s call) (answer s call) s (after s call) result left
 
 -- ---- laws in the subject's words
 -- what a resource's readings are in the running event

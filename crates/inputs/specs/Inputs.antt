@@ -3,7 +3,7 @@ use Rattle.std.specs.Prelude.{ℕ, cond, List, [], replicate, None, Option}
 use Rattle.std.specs.Str.{bytes_eq}
 use Rattle.rolls.specs.declared.code.Code.{Code}
 use Rattle.rolls.specs.Codes.{good, code_of}
-use Rattle.rolls.specs.Places.{place_by}
+use Rattle.std.specs.Prelude.{position}
 use Rattle.events.specs.declared.resource.Resource.{Resource}
 use Rattle.events.specs.declared.event.Event.{Event}
 use Rattle.hours.specs.declared.hour.Hour.{Hour}
@@ -39,4 +39,4 @@ no_inputs = record {
 
 -- the place of the member that a text names; a text that is no code names none
 abbrev pub member_named : List Code → List ℕ → Option ℕ
-member_named ms text = cond (good text) (place_by (λ m. bytes_eq m.signs (code_of text).signs) ms) None
+member_named ms text = cond (good text) (position (λ m. bytes_eq m.signs (code_of text).signs) ms) None

@@ -1,6 +1,5 @@
 -- What the book's tables stand for: the inputs, the running event and the settled hours.
 use Rattle.std.specs.Prelude.{ℕ, Bool, true, false, List, replicate, None, Option, slice_set}
-use Rattle.rolls.specs.Items.{items}
 use Rattle.events.specs.declared.event.RunningEvent.{RunningEvent}
 use Rattle.events.specs.DayEvents.{day_events}
 use Rattle.trades.specs.Trades.{quantity_at}
@@ -19,11 +18,11 @@ opened = record { inputs = no_inputs; running = None; settled = replicate 24 fal
 abbrev pub state_of : Tables → State
 state_of t = record {
   inputs = record {
-    members = items t.members;
-    resources = items t.resources;
+    members = t.members;
+    resources = t.resources;
     hours = t.hours.hours;
     assignments = t.assignments.rows;
-    traded = quantity_at (items t.trades.places);
+    traded = quantity_at t.trades.places;
     events = (day_events t.events).closed;
   };
   running = (day_events t.events).running;

@@ -1,8 +1,7 @@
 // The questions about the day's inputs, which change nothing.
-ghost use Rattle.std.specs.Prelude.{◌≡◌, ◌<◌, ◌≤◌, length};
+ghost use Rattle.std.specs.Prelude.{◌≡◌, ◌<◌, ◌≤◌, length, IfOk};
 ghost use Rattle.std.specs.List.{slice_get};
 ghost use Rattle.events.specs.declared.fault.BookFault.TheVariants.{NoSuchMember, NoSuchResource};
-ghost use Rattle.rolls.specs.Items.{items};
 ghost use Rattle.hours.specs.Hours.{hour_at};
 ghost use Rattle.hours.specs.Assignments.{assignment_at};
 ghost use Rattle.trades.specs.Trades.{standing};
@@ -14,10 +13,11 @@ use crate::entering::hour_place;
 use crate::tables::Tables;
 use events::event::{Event, RunningEvent};
 use events::fault::BookFault;
-use events::resource::{Resource, resource_named};
+use events::resource::Resource;
 use hours::assignment::Assignment;
 use hours::hour::Hour;
 use rolls::code::Code;
+use rolls::hour::HourPlace;
 use trades::trade::{Trade, TradeKey};
 
 impl Tables {
@@ -35,23 +35,25 @@ impl Tables {
         self.resources.len()
     }
 
-    // The place of the member that a code names.
+    // The place of the member that a code names; who is not found is refused here, for every call that names one.
     pub fn member_place(&self, code: &[u8]) -> Result<usize, BookFault>
         ensures value { result ≡ found_or (member (state_of self.now) code.now) NoSuchMember }
         ensures only { OnlyOne (λ m. m) (state_of self.now).inputs.members code.now result }
+        ensures within { IfOk result (λ i. (i < length (state_of self.now).inputs.members) × (i < 16)) }
     {
-        let Some(place) = self.member_named(code) else {
+        let Some(place) = self.members.place_named(code) else {
             return Err(BookFault::NoSuchMember);
         };
         Ok(place)
     }
 
-    // The place of the resource that a code names.
+    // The place of the resource that a code names; what is not found is refused here, for every call that names one.
     pub fn resource_place(&self, code: &[u8]) -> Result<usize, BookFault>
         ensures value { result ≡ found_or (resource (state_of self.now) code.now) NoSuchResource }
         ensures only { OnlyOne (λ x. x.code) (state_of self.now).inputs.resources code.now result }
+        ensures within { IfOk result (λ i. (i < length (state_of self.now).inputs.resources) × (i < 16)) }
     {
-        let Some(place) = resource_named(&self.resources, code) else {
+        let Some(place) = self.resources.place_named(code) else {
             return Err(BookFault::NoSuchResource);
         };
         Ok(place)
@@ -61,20 +63,14 @@ impl Tables {
     pub fn member_at(&self, place: usize) -> Result<Code, BookFault>
         ensures { result ≡ found_or (slice_get (state_of self.now).inputs.members place) NoSuchMember }
     {
-        let Some(code) = self.members.get(place) else {
-            return Err(BookFault::NoSuchMember);
-        };
-        Ok(code)
+        self.members.get(place).ok_or(BookFault::NoSuchMember)
     }
 
     // The resource at a place: its code, owner, kind and interval price sum.
     pub fn resource_at(&self, place: usize) -> Result<Resource, BookFault>
         ensures { result ≡ found_or (slice_get (state_of self.now).inputs.resources place) NoSuchResource }
     {
-        let Some(resource) = self.resources.get(place) else {
-            return Err(BookFault::NoSuchResource);
-        };
-        Ok(resource)
+        self.resources.get(place).ok_or(BookFault::NoSuchResource)
     }
 
     // The synchronized and the non-synchronized price of an hour.
@@ -90,9 +86,7 @@ impl Tables {
         ensures { result ≡ load_of (state_of self.now) hour member.now }
     {
         let hour = hour_place(hour)?;
-        let Some(member) = self.member_named(member) else {
-            return Err(BookFault::NoSuchMember);
-        };
+        let member = self.member_place(member)?;
         Ok(self.hours.load(hour, member))
     }
 
@@ -101,9 +95,7 @@ impl Tables {
         ensures { result ≡ assignment_of (state_of self.now) hour resource.now }
     {
         let hour = hour_place(hour)?;
-        let Some(resource) = resource_named(&self.resources, resource) else {
-            return Err(BookFault::NoSuchResource);
-        };
+        let resource = self.resource_place(resource)?;
         Ok(self.assignments.at(hour, resource))
     }
 
@@ -112,15 +104,11 @@ impl Tables {
         ensures { result ≡ quantity_of (state_of self.now) hour seller.now buyer.now }
     {
         let hour = hour_place(hour)?;
-        let Some(seller) = self.member_named(seller) else {
-            return Err(BookFault::NoSuchMember);
-        };
-        let Some(buyer) = self.member_named(buyer) else {
-            return Err(BookFault::NoSuchMember);
-        };
+        let seller = self.member_place(seller)?;
+        let buyer = self.member_place(buyer)?;
         Ok(
             self.trades.quantity(TradeKey {
-                hour,
+                hour: hour.index(),
                 seller,
                 buyer,
             }),
@@ -165,25 +153,23 @@ impl Tables {
 
     // The standing trades; their order has no meaning.
     pub fn standing_trades(&self) -> &[Trade]
-        ensures value { result.now ≡ items self.now.trades.places }
+        ensures value { result.now ≡ self.now.trades.places }
         ensures few { length result.now ≤ 64 }
     {
         self.trades.as_slice()
     }
 
     // The hour at a place.
-    pub fn hour_at(&self, place: usize) -> Hour
-        requires { place < 24 }
-        ensures { result ≡ hour_at (state_of self.now).inputs.hours place }
+    pub fn hour_at(&self, hour: HourPlace) -> Hour
+        ensures { result ≡ hour_at (state_of self.now).inputs.hours hour.place }
     {
-        self.hours.at(place)
+        self.hours.at(hour)
     }
 
-    // The assignment of a resource in an hour, both by their places.
-    pub fn assignment_at(&self, hour: usize, resource: usize) -> Assignment<u32>
-        requires hour { hour < 24 }
-        requires resource { resource < 16 }
-        ensures { result ≡ assignment_at (state_of self.now).inputs.assignments hour resource }
+    // The assignment of the resource at a place in an hour.
+    pub fn assignment_at(&self, hour: HourPlace, resource: usize) -> Assignment<u32>
+        requires { resource < 16 }
+        ensures { result ≡ assignment_at (state_of self.now).inputs.assignments hour.place resource }
     {
         self.assignments.at(hour, resource)
     }

@@ -1,6 +1,5 @@
 // The tables behind the day book.
 ghost use Rattle.std.specs.Prelude.{◌≡◌, ℕ, ◌<◌, ◌≤◌, length, slice_index_or};
-ghost use Rattle.rolls.specs.Items.{items};
 ghost use Rattle.events.specs.Resources.{no_resource};
 ghost use Rattle.trades.specs.declared.trade.TradeKey.{TradeKey};
 ghost use Rattle.trades.specs.Trades.{quantity_at};
@@ -26,10 +25,12 @@ pub struct Tables {
     pub(crate) trades: Trades,
     pub(crate) events: Events,
     pub(crate) settled: SettledHours,
-    ghost enrolled: { MembersApart (items members) },
-    ghost registered: { ResourcesApart (items resources) },
-    ghost owners: { (k : ℕ) → k < length (items resources) → (slice_index_or (items resources) k no_resource).owner < length (items members) },
-    ghost sums: { (k : ℕ) → k < length (items resources) → (slice_index_or (items resources) k no_resource).interval_price_sum ≤ 4000000 },
-    ghost sellers: { (k : TradeKey) → length (items members) ≤ k.seller → quantity_at (items trades.places) k ≡ 0 },
-    ghost buyers: { (k : TradeKey) → length (items members) ≤ k.buyer → quantity_at (items trades.places) k ≡ 0 },
+    ghost few_members: { length members ≤ 16 },
+    ghost few_resources: { length resources ≤ 16 },
+    ghost enrolled: { MembersApart members },
+    ghost registered: { ResourcesApart resources },
+    ghost owners: { (k : ℕ) → k < length resources → (slice_index_or resources k no_resource).owner < length members },
+    ghost sums: { (k : ℕ) → k < length resources → (slice_index_or resources k no_resource).interval_price_sum ≤ 4000000 },
+    ghost sellers: { (k : TradeKey) → length members ≤ k.seller → quantity_at trades.places k ≡ 0 },
+    ghost buyers: { (k : TradeKey) → length members ≤ k.buyer → quantity_at trades.places k ≡ 0 },
 }

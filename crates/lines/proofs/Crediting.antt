@@ -1,5 +1,5 @@
 -- Credits of a resource, as the code computes them.
-use Rattle.std.proofs.Common.{◌≡◌, ℕ, ◌<◌, ◌≤◌, Bool, true, false, cond, ◌&&◌, eqb, length, ℤ, pos, ◌+ℤ◌, ◌-ℤ◌, ◌*ℤ◌, ◌≤ℤ◌, sym, ap, ◌∙◌, arith}
+use Rattle.std.proofs.Common.{◌≡◌, ℕ, ◌<◌, ◌≤◌, Bool, true, false, cond, ◌&&◌, eqb, List, length, ℤ, pos, ◌+ℤ◌, ◌-ℤ◌, ◌*ℤ◌, ◌≤ℤ◌, sym, ap, ◌∙◌, arith, lit≤}
 use lib.IntN.{*ℤ_comm}
 use Rattle.std.specs.Int.{int_max}
 use Rattle.std.proofs.lemmas.Int.{ints}
@@ -15,9 +15,12 @@ use Rattle.settlement.specs.Shortfalls.{shortfall}
 use Rattle.settlement.specs.Settlement.{counted_here, delivered, delivered_tier_one, clearing_credit_of, opportunity_cost, opportunity_cost_credit_of}
 use Rattle.settlement.proofs.Bounds.{product_above, product_left, thousand_above, thousand_below}
 use Rattle.settlement.proofs.Refunds.{assigned_small}
-use Rattle.settlement.proofs.Acceptance.{delivered_bounds, credit_bounds}
+use Rattle.settlement.proofs.Acceptance.{delivered_bounds, credit_bounds, costs}
 use Rattle.settlement.proofs.Tables.{bounded}
-use Rattle.lines.specs.Figures.{the_day, the_hour, the_sales}
+use Rattle.settlement.specs.Figures.{Modest, ByResource, the_day, the_hour, the_sales}
+use Rattle.lines.specs.declared.credits.Credits.{Credits}
+use Rattle.lines.specs.Steps.{CreditsOf}
+use Rattle.lines.proofs.Sizes.{modest_by}
 
 -- ---- cents
 
@@ -83,3 +86,18 @@ module _ (t : Tables) (k : ℕ) (h : k < 24) (r : ℕ) (l : r < length (the_day 
       let v = credit_bounds (the_day t) k (the_hour t k) (the_sales t k) b r in
       let a = assigned_small (the_day t) b.day k r h l in
       (v.0, omega (arith, ints, v.1))
+
+module _ (t : Tables) (k : ℕ) (h : k < 24) (c : Credits) (e : CreditsOf t k c) where
+  pub delivered_modest : Modest (length (the_day t).roll) c.delivered
+  delivered_modest = modest_by _ 500000 c.delivered (delivered (the_day t) k) e.delivered (delivered_small t k h) (lit≤ tt)
+
+  pub clearing_modest : Modest (length (the_day t).roll) c.clearing
+  clearing_modest = modest_by _ 200000000 c.clearing (clearing_credit_of (the_day t) k (the_hour t k)) e.clearing (credit_small t k h) (lit≤ tt)
+
+  pub costs_modest : Modest (length (the_day t).roll) c.opportunity_costs
+  costs_modest =
+      modest_by _ 500000000 c.opportunity_costs (opportunity_cost_credit_of (the_day t) k (the_hour t k)) e.opportunity_costs
+      (λ r l. let v = costs (the_day t) k (the_hour t k) (the_sales t k) (bounded t k h) r l in (v.0, v.1)) (lit≤ tt)
+
+pub tier_one_modest : (t : Tables) (k : ℕ) → k < 24 → (xs : List ℤ) → ByResource t xs (delivered_tier_one (the_day t) k) → Modest (length (the_day t).roll) xs
+tier_one_modest t k h xs e = modest_by _ 500000 xs (delivered_tier_one (the_day t) k) e (tier_one_small t k h) (lit≤ tt)

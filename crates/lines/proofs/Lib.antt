@@ -1,7 +1,7 @@
-pub mod Steps
 pub mod Crediting
 pub mod Refunding
 pub mod Moves
 pub mod Sizes
 pub mod Settling
 pub mod Lines
+pub mod Zeros

@@ -1,5 +1,5 @@
 -- The lines, the total and the refusal of a settled hour.
-use Rattle.std.proofs.Common.{◌≡◌, ℕ, ◌<◌, ◌≤◌, Bool, true, false, ◌&&◌, ◌||◌, ltb, List, map, length, ℤ, pos, ◌+ℤ◌, sym, refl, ap, ◌∙◌, inl, inr, arith}
+use Rattle.std.proofs.Common.{◌≡◌, ℕ, ◌<◌, ◌≤◌, Bool, true, false, ◌||◌, ltb, List, map, length, ℤ, pos, ◌+ℤ◌, sym, refl, ap, ◌∙◌, inl, inr, arith}
 use lib.Signed.{lt_z}
 use Rattle.std.proofs.lemmas.Int.{ints}
 use Rattle.std.proofs.lemmas.Bool.Decides.{nat_tests}
@@ -21,18 +21,15 @@ use Rattle.settlement.proofs.Tables.{bounded}
 use Rattle.lines.specs.declared.obligations.Obligations.{Obligations}
 use Rattle.lines.specs.declared.clearing.Clearing.{Clearing}
 use Rattle.lines.specs.declared.payments.Payments.{Payments}
-use Rattle.lines.specs.Figures.{the_day, the_hour, the_sales}
+use Rattle.settlement.specs.Figures.{the_day, the_hour, the_sales}
 use Rattle.lines.specs.Steps.{no_load, no_payee, ObligationsOf, ClearingOf, PaymentsOf, line_from}
-use Rattle.lines.proofs.Sizes.{share_at, carried}
+use Rattle.lines.proofs.Sizes.{share_at, other_false, carried}
 
 or_true : (a b : Bool) → b ≡ true → (a || b) ≡ true
 or_true a b e = grind arith
 
 or_false : (a b : Bool) → a ≡ false → b ≡ false → (a || b) ≡ false
 or_false a b e f = grind arith
-
-other : (a b : Bool) → (a && b) ≡ false → a ≡ true → b ≡ false
-other a b e f = grind arith
 
 module _ (s : Meaning) (t : Tables) (k : ℕ) where
   -- ---- the refusal
@@ -56,19 +53,14 @@ module _ (s : Meaning) (t : Tables) (k : ℕ) where
   unfolding line
   member_line o c p oo cc' pp m l =
       let e1 = share_at t o.owed _ m oo.owed l in
-      let e2 = oo.adjusted.1 m l in
+      let e2 = oo.adjusted m l in
       let e3 = share_at t c.clearing_charges _ m cc'.clearing_charges l in
       let e4 = share_at t c.opportunity_cost_charges _ m cc'.opportunity_cost_charges l in
-      let e5 = pp.charged.1 m l in
-      let e6 = cc'.clearing_credits.1 m l in
-      let e7 = cc'.opportunity_cost_credits.1 m l in
+      let e5 = pp.charged m l in
+      let e6 = cc'.clearing_credits m l in
+      let e7 = cc'.opportunity_cost_credits m l in
       let e8 = share_at t p.paid _ m pp.paid l in
-      eight _ _ _ _ _ _ _ _ _ _ _ _ _ _ _ _ e1 e2 e3 e4 e5 e6 e7 e8
-    where
-      eight : (a b c d e f g h a' b' c' d' e' f' g' h' : ℤ) → a ≡ a' → b ≡ b' → c ≡ c' → d ≡ d' → e ≡ e' → f ≡ f' → g ≡ g' → h ≡ h'
-          → ◌≡◌ {A = Line} (record { obligation = a; adjusted_obligation = b; clearing_charge = c; opportunity_cost_charge = d; refund_charged = e; clearing_credit = f; opportunity_cost_credit = g; refund_paid = h })
-          (record { obligation = a'; adjusted_obligation = b'; clearing_charge = c'; opportunity_cost_charge = d'; refund_charged = e'; clearing_credit = f'; opportunity_cost_credit = g'; refund_paid = h' })
-      eight a b c d e f g h a' b' c' d' e' f' g' h' p1 p2 p3 p4 p5 p6 p7 p8 = rw (p1, p2, p3, p4, p5, p6, p7, p8) refl
+      rw (e1, e2, e3, e4, e5, e6, e7, e8) refl
 
   pub lines_are : (o : Obligations) (c : Clearing) (p : Payments) (n : ℕ) (ls : List Line) → ObligationsOf s t k o → ClearingOf s t k c → PaymentsOf s t k p → n ≡ (the_day t).member_count
       → ((m : ℕ) → m < n → line_at ls m ≡ line_from o c p m) → ((m : ℕ) → n ≤ m → line_at ls m ≡ zero_line)
@@ -91,7 +83,7 @@ module _ (s : Meaning) (t : Tables) (k : ℕ) where
   pub refund_allocable : (h : k < 24) (lawful : Lawful s) → no_load t k ≡ false → no_payee s t k ≡ false → Allocable (total_refund s (the_day t) k) (payees s (the_day t) k (the_hour t k) (the_sales t k))
   refund_allocable h lawful ok payable =
       refunds (the_day t) k (the_hour t k) (the_sales t k) (bounded t k h) s lawful (carried t k h s lawful ok)
-      (λ l. other (lt_z (pos 0) (total_refund s (the_day t) k)) (all_zero (payees s (the_day t) k (the_hour t k) (the_sales t k))) payable (above_test _ l))
+      (λ l. other_false (lt_z (pos 0) (total_refund s (the_day t) k)) (all_zero (payees s (the_day t) k (the_hour t k) (the_sales t k))) payable (above_test _ l))
 
   pub total_is : (lawful : Lawful s) → Allocable (total_refund s (the_day t) k) (payees s (the_day t) k (the_hour t k) (the_sales t k)) → length (payees s (the_day t) k (the_hour t k) (the_sales t k)) ≡ (the_day t).member_count
       → defined_total s (state_of t).inputs k ≡ total_clearing (the_day t) k (the_hour t k) +ℤ total_opportunity_cost (the_day t) k (the_hour t k) +ℤ total_refund s (the_day t) k

@@ -4,44 +4,23 @@ use Rattle.std.proofs.lemmas.Int.{ints}
 use Rattle.std.proofs.lemmas.Bool.Decides.{nat_tests}
 use Rattle.std.proofs.lemmas.Bool.{cases_Bool}
 use Rattle.std.proofs.lemmas.List.Sums.{sum_by_more}
-use Rattle.std.proofs.ByRecursion.{All-get_or}
-use Rattle.rolls.specs.Items.{items}
 use Rattle.trades.specs.declared.trade.Trade.{Trade}
 use Rattle.trades.specs.Trades.{sound}
 use Rattle.trades.proofs.Sums.{all_pass}
+use Rattle.trades.proofs.Soundness.{Sound, sound_is}
 use Rattle.inputs.specs.declared.tables.Tables.{Tables}
 use Rattle.settlement.specs.Sums.{at}
 use Rattle.settlement.proofs.Trading.{sells, buys}
 
 -- a figure that is changed at one place
-pub raised : (xs : List ℤ) (s m q : ℕ) (v : ℤ) → s < length xs → v ≡ at xs s +ℤ pos q → at (set xs s v) m ≡ at xs m +ℤ pos (cond (eqb s m) q 0)
-raised xs s m q v l e = elim (cases_Bool (eqb s m)) [
+changed : (xs : List ℤ) (s m : ℕ) (q v : ℤ) → s < length xs → v ≡ at xs s +ℤ q → at (set xs s v) m ≡ at xs m +ℤ cond (eqb s m) q (pos 0)
+changed xs s m q v l e = elim (cases_Bool (eqb s m)) [
   | inl t ↦
       let z : m ≡ s = grind (arith, nat_tests) in
-      let h = ap (at (set xs s v)) z ∙ get_or-set_same xs s v (pos 0) l in
-      let k = ap (at xs) z in
-      let c : cond (eqb s m) q 0 ≡ q = rw t refl in
-      omega (arith, ints)
+      rw (t, z) (get_or-set_same xs s v (pos 0) l ∙ e)
   | inr t ↦
       let z : m ≢ s = grind (arith, nat_tests) in
-      let h = get_or-set_other xs s m v (pos 0) z in
-      let c : cond (eqb s m) q 0 ≡ 0 = rw t refl in
-      omega (arith, ints)
-]
-
-pub lowered : (xs : List ℤ) (s m q : ℕ) (v : ℤ) → s < length xs → v ≡ at xs s -ℤ pos q → at (set xs s v) m ≡ at xs m -ℤ pos (cond (eqb s m) q 0)
-lowered xs s m q v l e = elim (cases_Bool (eqb s m)) [
-  | inl t ↦
-      let z : m ≡ s = grind (arith, nat_tests) in
-      let h = ap (at (set xs s v)) z ∙ get_or-set_same xs s v (pos 0) l in
-      let k = ap (at xs) z in
-      let c : cond (eqb s m) q 0 ≡ q = rw t refl in
-      omega (arith, ints)
-  | inr t ↦
-      let z : m ≢ s = grind (arith, nat_tests) in
-      let h = get_or-set_other xs s m v (pos 0) z in
-      let c : cond (eqb s m) q 0 ≡ 0 = rw t refl in
-      omega (arith, ints)
+      rw t (let h = get_or-set_other xs s m v (pos 0) z in omega (arith, ints))
 ]
 
 -- a trade of q kWh from the member at b to the one at s
@@ -49,25 +28,22 @@ pub moved : (xs : List ℤ) (s b m q : ℕ) (v w : ℤ) → length xs ≡ 16 →
     → (nat_abs (at (set xs s v) b) ≤ 33000000 → w ≡ at (set xs s v) b -ℤ pos q)
     → at (set (set xs s v) b w) m ≡ at xs m +ℤ pos (cond (eqb s m) q 0) -ℤ pos (cond (eqb b m) q 0)
 moved xs s b m q v w n ls lb small modest e f =
-    let o = raised xs s b q v (omega arith) e in
-    let k : cond (eqb s b) q 0 ≤ q = either (eqb s b) in
-    let g = f (omega (arith, ints)) in
-    let h = raised xs s m q v (omega arith) e in
-    let i = lowered (set xs s v) b m q w (omega (arith, length-set xs s v)) g in
-    omega (arith, ints)
+    let g = f (close (eqb s b) _ _ modest (changed xs s b (pos q) v (omega arith) e)) in
+    let h = changed xs s m (pos q) v (omega arith) e in
+    both (eqb s m) (eqb b m) _ _ _ h (changed (set xs s v) b m (pos 0 -ℤ pos q) w (omega (arith, length-set xs s v)) (omega (arith, ints)))
   where
-    either : (c : Bool) → cond c q 0 ≤ q
-    either true = omega arith
-    either false = omega arith
+    close : (c : Bool) (x y : ℤ) → nat_abs x ≤ 32000000 → y ≡ x +ℤ cond c (pos q) (pos 0) → nat_abs y ≤ 33000000
+    close true x y k h = omega (arith, ints)
+    close false x y k h = omega (arith, ints)
 
--- a standing trade is between places of members, and within its bound
-sound_is : (t : Trade) → sound t ≡ true → (t.key.seller < 16) × (t.key.buyer < 16) × (t.kwh ≤ 500000)
-sound_is t e = (grind (arith, nat_tests), grind (arith, nat_tests), grind (arith, nat_tests))
+    both : (c d : Bool) (x y z : ℤ) → y ≡ x +ℤ cond c (pos q) (pos 0) → z ≡ y +ℤ cond d (pos 0 -ℤ pos q) (pos 0) → z ≡ x +ℤ pos (cond c q 0) -ℤ pos (cond d q 0)
+    both true true x y z h i = omega (arith, ints)
+    both true false x y z h i = omega (arith, ints)
+    both false true x y z h i = omega (arith, ints)
+    both false false x y z h i = omega (arith, ints)
 
-pub trade_sound : (t : Tables) (i : ℕ) (d x : Trade) → i < length (items t.trades.places) → x ≡ get_or (items t.trades.places) i d → (x.key.seller < 16) × (x.key.buyer < 16) × (x.kwh ≤ 500000)
-trade_sound t i d x l e =
-    let ts = items t.trades.places in
-    sound_is x (ap sound e ∙ All-get_or (λ y. sound y ≡ true) ts i d l (all_pass sound ts t.trades.sound))
+pub trade_sound : (t : Tables) (i : ℕ) (d x : Trade) → i < length t.trades.places → x ≡ get_or t.trades.places i d → Sound x
+trade_sound t i d x l e = sound_is x (ap sound e ∙ all_pass sound t.trades.places t.trades.sound i d l)
 
 part : (b : Bool) (q : ℕ) → cond b q 0 ≤ q
 part true q = omega arith

@@ -1,5 +1,7 @@
 -- What each step of an hour's settlement leaves, as the code holds it.
-use Rattle.std.specs.Prelude.{◌≡◌, ℕ, Bool, true, false, ◌&&◌, List, length, take, ℤ, pos, ◌+ℤ◌, Some, None, Option, int_lt}
+use Rattle.std.specs.Prelude.{◌≡◌, ℕ, Bool, true, false, ◌&&◌, List, take, ℤ, pos, ◌+ℤ◌, Ok, Err, Result, int_lt}
+use Rattle.events.specs.declared.fault.BookFault.{BookFault}
+use Rattle.events.specs.declared.fault.BookFault.TheVariants.{NobodyToCharge}
 use Rattle.inputs.specs.declared.tables.Tables.{Tables}
 use Rattle.settlement.specs.declared.line.Line.{Line}
 use Rattle.settlement.specs.Sums.{at, is_zero, all_zero, Meaning}
@@ -9,7 +11,7 @@ use Rattle.lines.specs.declared.credits.Credits.{Credits}
 use Rattle.lines.specs.declared.obligations.Obligations.{Obligations}
 use Rattle.lines.specs.declared.clearing.Clearing.{Clearing}
 use Rattle.lines.specs.declared.payments.Payments.{Payments}
-use Rattle.lines.specs.Figures.{ByResource, ByMember, the_day, the_hour, the_sales}
+use Rattle.settlement.specs.Figures.{ByResource, ByMember, the_day, the_hour, the_sales}
 
 pub record CreditsOf (tables : Tables) (k : ℕ) (c : Credits) : Type 0 where
   pub delivered : ByResource tables c.delivered (delivered (the_day tables) k)
@@ -21,9 +23,9 @@ pub record CreditsOf (tables : Tables) (k : ℕ) (c : Credits) : Type 0 where
 abbrev pub no_load : Tables → ℕ → Bool
 no_load tables k = int_lt (pos 0) (total_assigned (the_day tables) k) && is_zero (total_load (the_day tables) (the_hour tables k))
 
--- 16 places, of which the members' have the shares
+-- the members' places have the shares
 abbrev pub Shares : Tables → List ℤ → List ℤ → Type 0
-Shares tables xs shares = (length xs ≡ 16) × (take (the_day tables).member_count xs ≡ shares)
+Shares tables xs shares = take (the_day tables).member_count xs ≡ shares
 
 module _ (t : Meaning) (tables : Tables) (k : ℕ) where
   pub record ObligationsOf (o : Obligations) : Type 0 where
@@ -32,9 +34,9 @@ module _ (t : Meaning) (tables : Tables) (k : ℕ) where
     pub adjusted : ByMember tables o.adjusted (adjusted_obligation_of t (the_day tables) k (the_hour tables k) (the_sales tables k))
 
   -- the obligations, unless there is no load to carry them
-  abbrev pub Carried : Option Obligations → Type 0
-  Carried None = no_load tables k ≡ true
-  Carried (Some o) = ObligationsOf o
+  abbrev pub Carried : Result Obligations BookFault → Type 0
+  Carried (Err e) = (no_load tables k ≡ true) × (e ≡ NobodyToCharge)
+  Carried (Ok o) = ObligationsOf o
 
   pub record ClearingOf (c : Clearing) : Type 0 where
     pub clearing_credits : ByMember tables c.clearing_credits (λ m. own (the_day tables) m (clearing_credit_of (the_day tables) k (the_hour tables k)))
@@ -54,9 +56,9 @@ module _ (t : Meaning) (tables : Tables) (k : ℕ) where
     pub total : p.total ≡ total_refund t (the_day tables) k
 
   -- the refunds, unless there is no member to pay them to
-  abbrev pub Paid : Option Payments → Type 0
-  Paid None = no_payee ≡ true
-  Paid (Some p) = PaymentsOf p
+  abbrev pub Paid : Result Payments BookFault → Type 0
+  Paid (Err e) = (no_payee ≡ true) × (e ≡ NobodyToCharge)
+  Paid (Ok p) = PaymentsOf p
 
 -- the line of the member at a place, from the columns
 abbrev pub line_from : Obligations → Clearing → Payments → ℕ → Line

@@ -3,7 +3,9 @@
 
 mod clearing;
 mod credits;
+mod delivered;
 pub mod hour;
+mod hour_of_day;
 mod members;
 mod obligations;
 mod payments;

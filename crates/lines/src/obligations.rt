@@ -1,18 +1,18 @@
 // What the members have to carry in an hour.
-ghost use Rattle.std.specs.Prelude.{◌≡◌, ◌<◌, ◌&&◌, pos, int_lt};
+ghost use Rattle.std.specs.Prelude.{◌≡◌, ◌&&◌, pos, int_lt};
 ghost use Rattle.settlement.specs.Sums.{is_zero};
-ghost use Rattle.settlement.specs.Days.{assigned as assigned_in};
-ghost use Rattle.lines.specs.Figures.{ByResource, the_day};
+ghost use Rattle.settlement.specs.Settlement.{total_assigned};
+ghost use Rattle.settlement.specs.Figures.{the_day};
 ghost use Rattle.lines.specs.Steps.{Carried};
 
-use crate::members::{loads_by_member, member_count, sum_by_resource};
-use crate::sums::{added, shares_of, sum_of};
-use crate::trading::net_sales_by_member;
-use allocation::rule::AllocationRule;
-use inputs::tables::Tables;
+use crate::hour_of_day::HourOfDay;
+use crate::sums::shares_of;
+use allocation::rule::{AllocationRule, total_of};
+use events::fault::BookFault;
 use rolls::limits::MAX_MEMBERS;
 
 // In kWh, by the members' places: the reserve by loads, and the same with sales less purchases.
+// Columns, since a rule takes one of them as weights.
 #[derive(Clone, Copy)]
 pub(crate) struct Obligations {
     pub(crate) owed: [i64; MAX_MEMBERS],
@@ -26,25 +26,30 @@ fn lacks_load(reserve: i64, load: i64) -> bool
     reserve > 0 && load == 0
 }
 
-// The obligations, unless there is no load to carry them.
-pub(crate) fn carry_reserve<R: AllocationRule>(
-    rule: &R,
-    tables: &Tables,
-    hour: usize,
-    assigned: &[i64],
-) -> Option<Obligations>
-    requires hour { hour < 24 }
-    requires assigned { ByResource tables.now assigned.now (assigned_in (the_day tables.now) hour) }
-    ensures { Carried (R.AllocationRule.shares rule.now) tables.now hour result }
-{
-    let count = member_count(tables);
-    let reserve = sum_by_resource(tables, assigned);
-    let loads = loads_by_member(tables, hour);
-    if lacks_load(reserve, sum_of(&loads[0..count])) {
-        return None;
+impl HourOfDay<'_> {
+    // The kWh assigned to all resources.
+    fn reserve(&self) -> i64
+        ensures { result ≡ total_assigned (the_day self.now.tables.now) self.now.hour.place }
+    {
+        self.sum_by_resource(&self.assigned_by_resource())
     }
-    let owed = shares_of(rule, reserve, &loads[0..count]);
-    let net = net_sales_by_member(tables, hour);
-    let adjusted = added(count, &owed, &net);
-    Some(Obligations { owed, adjusted })
+
+    // The obligations, unless there is no load to carry them.
+    pub(crate) fn carry_reserve<R: AllocationRule>(
+        &self,
+        rule: &R,
+    ) -> Result<Obligations, BookFault>
+        ensures { Carried (R.AllocationRule.shares rule.now) self.now.tables.now self.now.hour.place result }
+    {
+        let reserve = self.reserve();
+        let loads = self.loads_by_member();
+        let loads = &loads[..self.member_count()];
+        if lacks_load(reserve, total_of(loads)) {
+            return Err(BookFault::NobodyToCharge);
+        }
+        let owed = shares_of(rule, reserve, loads);
+        let net = self.net_sales_by_member();
+        let adjusted = self.added(&owed, &net);
+        Ok(Obligations { owed, adjusted })
+    }
 }

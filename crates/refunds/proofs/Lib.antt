@@ -1,5 +1,4 @@
 pub mod Places
-pub mod Tables
 pub mod NetShares
 pub mod Largest
 pub mod Events

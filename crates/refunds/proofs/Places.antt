@@ -1,5 +1,5 @@
 -- Loops over places: what is kept of them, and what is written at them.
-use Rattle.std.proofs.Common.{◌≡◌, ℕ, ◌+◌, ◌<◌, ◌≤◌, Bool, true, ◌≢◌, List, length, set, ℤ, pos, filter, sym, ap, ◌∙◌, arith, get_or-set_other, get_or-set_same, below_more}
+use Rattle.std.proofs.Common.{◌≡◌, ℕ, ◌+◌, ◌<◌, ◌≤◌, Bool, true, ◌≢◌, List, length, set, ℤ, pos, filter, sym, ap, ◌∙◌, arith, get_or-set_other, below_more}
 use Rattle.std.specs.List.{range_with_len}
 use Rattle.std.proofs.lemmas.List.Edits.{fill_by_more}
 use Rattle.std.proofs.lemmas.List.{length_push}
@@ -24,10 +24,3 @@ filled_more f before xs n v l e h = record {
 -- nothing is written where that changes nothing
 pub filled_same : (f before : ℕ → ℤ) (xs : List ℤ) (n : ℕ) → f n ≡ before n → Filled f before n xs → Filled f before (n + 1) xs
 filled_same f before xs n e h = record { done = below_more _ _ h.done (h.left n (omega arith) ∙ sym e); left = λ k m. h.left k (omega arith) }
-
--- what holds of each value that is written
-pub each_written : (P : ℤ → Type 0) (xs : List ℤ) (n : ℕ) (v : ℤ) → n < length xs → P v → ((k : ℕ) → k < n → P (at xs k)) → (k : ℕ) → k < n + 1 → P (at (set xs n v) k)
-each_written P xs n v l p h =
-    below_more _ _
-    (λ k m. let ne : k ≢ n = omega arith in rw get_or-set_other (h k m))
-    (rw get_or-set_same p)

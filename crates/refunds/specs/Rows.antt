@@ -1,41 +1,34 @@
 -- Figures of the events and of the resources, as the code holds them.
-use Rattle.std.specs.Prelude.{◌≡◌, ℕ, ◌<◌, cond, List, [], map, length, get_or, ℤ, pos, ◌-ℤ◌, filter, ◌==◌, nat_eq, slice_index_or}
+use Rattle.std.specs.Prelude.{◌≡◌, ℕ, ◌<◌, cond, List, [], map, length, ℤ, pos, ◌-ℤ◌, slice_index_or}
 use Rattle.std.specs.List.{range_with_len}
-use Rattle.events.specs.declared.resource.Resource.{Resource}
-use Rattle.events.specs.Resources.{no_resource}
-use Rattle.inputs.specs.declared.tables.Tables.{Tables}
-use Rattle.inputs.specs.States.{state_of}
-use Rattle.settlement.specs.Sums.{sum, at, at_least_zero}
-use Rattle.settlement.specs.Days.{Day, day_of, event}
+use Rattle.settlement.specs.Sums.{at, at_least_zero}
+use Rattle.settlement.specs.Days.{Day, resources, owns, owned, event}
 use Rattle.settlement.specs.Shortfalls.{counts, shortfall}
-
--- the day of the tables
-abbrev pub day : Tables → Day
-day tables = day_of (state_of tables).inputs
-
--- the places of a member's resources among the first so many
-abbrev pub own_places : List Resource → ℕ → ℕ → List ℕ
-own_places roll m n = filter (λ k. nat_eq (get_or roll k no_resource).owner m) (range_with_len 0 n)
+use Rattle.settlement.specs.Settlement.{own}
 
 -- what a member's shortfalls exceed its over-responses by
-abbrev pub net_of : List Resource → ℕ → List ℤ → List ℤ → ℤ
-net_of roll m short over = at_least_zero (sum (own_places roll m (length roll)) (at short) -ℤ sum (own_places roll m (length roll)) (at over))
+abbrev pub net_of : Day → ℕ → List ℤ → List ℤ → ℤ
+net_of d m short over = at_least_zero (own d m (at short) -ℤ own d m (at over))
 
 -- the figures of a member's resources, in order
-abbrev pub own_figures : List Resource → ℕ → List ℤ → List ℤ
-own_figures roll m figures = map (at figures) (own_places roll m (length roll))
+abbrev pub own_figures : Day → ℕ → List ℤ → List ℤ
+own_figures d m figures = map (at figures) (owned d m (resources d))
 
 -- the share of the resource at a place, where the member owns it
-abbrev pub own_share : List Resource → ℕ → List ℤ → ℕ → ℤ
-own_share roll m shares r = at shares (length (own_places roll m r))
+abbrev pub own_share : Day → ℕ → List ℤ → ℕ → ℤ
+own_share d m shares r = at shares (length (owned d m (range_with_len 0 r)))
 
 -- the shares of one member's resources are written at their places, and nothing else
-abbrev pub ScatteredFor : List Resource → ℕ → List ℤ → List ℤ → List ℤ → Type 0
-ScatteredFor roll m shares before after =
-    (r : ℕ) → r < length roll → at after r ≡ cond ((get_or roll r no_resource).owner == m) (own_share roll m shares r) (at before r)
+abbrev pub ScatteredFor : Day → ℕ → List ℤ → List ℤ → List ℤ → Type 0
+ScatteredFor d m shares before after =
+    (r : ℕ) → r < length d.roll → at after r ≡ cond (owns d m r) (own_share d m shares r) (at before r)
 
--- the shortfalls by closed event and by resource; an event that does not count has none
+-- the shortfall of a resource in the closed event at a place; one that does not count has none
+abbrev pub counted_shortfall : Day → ℕ → ℕ → ℤ
+counted_shortfall d n r = cond (counts (event d n)) (shortfall d (event d n) r) (pos 0)
+
+-- these by closed event and by resource
 abbrev pub ShortfallsOf : Day → List (List ℤ) → Type 0
 ShortfallsOf d rows =
     (n r : ℕ) → n < length d.closed → r < length d.roll →
-    at (slice_index_or rows n []) r ≡ cond (counts (event d n)) (shortfall d (event d n) r) (pos 0)
+    at (slice_index_or rows n []) r ≡ counted_shortfall d n r

@@ -1,10 +1,10 @@
 // The minutes of an event.
-ghost use Rattle.std.specs.Prelude.{◌≡◌, ◌<◌};
+ghost use Rattle.std.specs.Prelude.{◌≡◌, ◌<◌, pos};
 ghost use Rattle.settlement.specs.Shortfalls.{counts, minutes_in as minutes_of};
 
 use events::event::Event;
 
-pub(crate) const MINUTES_PER_HOUR: usize = 60;
+pub(crate) const MINUTES_PER_HOUR: u16 = 60;
 
 // An event counts with so many minutes or more.
 const COUNTED_EVENT_MINUTES: u16 = 10;
@@ -17,12 +17,13 @@ pub(crate) fn is_counted(event: &Event) -> bool
 }
 
 // An event's minutes in the hour at a place.
-pub(crate) fn minutes_in(event: &Event, hour: usize) -> i64
+pub(crate) fn minutes_in(event: &Event, hour: usize) -> u16
     requires { hour < 24 }
-    ensures { result ≡ minutes_of event.now hour }
+    ensures { pos result ≡ minutes_of event.now hour }
 {
-    let first = MINUTES_PER_HOUR * hour;
-    let end = (event.end as usize).min(first + MINUTES_PER_HOUR);
-    let start = (event.start as usize).max(first);
-    end.saturating_sub(start) as i64
+    // A place is below 24, so it and its minutes are small.
+    let first = MINUTES_PER_HOUR * u16::try_from(hour).unwrap();
+    let end = event.end.min(first + MINUTES_PER_HOUR);
+    let start = event.start.max(first);
+    end.saturating_sub(start)
 }

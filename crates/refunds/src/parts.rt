@@ -1,86 +1,65 @@
 // The parts of the day refunds that fall to an hour.
-ghost use Rattle.std.specs.Prelude.{◌≡◌, ℕ, ◌<◌, map, length, ℤ};
-ghost use Rattle.settlement.specs.Sums.{at};
-ghost use Rattle.settlement.specs.Days.{hours};
+ghost use Rattle.std.specs.Prelude.{◌≡◌, ◌<◌, length, pos};
 ghost use Rattle.settlement.specs.Shortfalls.{day_refund, refund_minutes as refund_minutes_of, refund_part as refund_part_of};
-ghost use Rattle.refunds.specs.Rows.{day, ShortfallsOf};
+ghost use Rattle.settlement.specs.Figures.{the_day, ByResource};
 
 use crate::minutes::minutes_in;
 use crate::rows::EventShortfalls;
 use allocation::rule::AllocationRule;
-use inputs::tables::Tables;
+use rolls::hour::HourPlace;
 use rolls::limits::{HOURS, MAX_RESOURCES};
-use settlement::figures::allocate_amount;
+use settlement::figures::{allocate_amount, by_place, by_resource};
 
-// The minutes in an hour of the events in which a resource had a shortfall.
-fn short_minutes(tables: &Tables, shortfalls: &EventShortfalls, resource: usize, hour: usize) -> i64
-    requires shortfalls { ShortfallsOf (day tables.now) shortfalls.now.rows }
-    requires resource { resource < length (day tables.now).roll }
-    requires hour { hour < 24 }
-    ensures { result ≡ refund_minutes_of (day tables.now) resource hour }
-{
-    let mut minutes = 0;
-    let events = tables.closed_events();
-    for place in 0..events.len() {
-        if shortfalls.rows[place][resource] > 0 {
-            minutes += minutes_in(&events[place], hour);
+impl EventShortfalls<'_> {
+    // The minutes in an hour of the events in which a resource had a shortfall.
+    // A loop and no chain: its invariant says that the sum fits, at most 60 minutes for each event so far.
+    fn short_minutes(&self, resource: usize, hour: usize) -> u16
+        requires resource { resource < length (the_day self.now.tables.now).roll }
+        requires hour { hour < 24 }
+        ensures { pos result ≡ refund_minutes_of (the_day self.now.tables.now) resource hour }
+    {
+        let mut minutes = 0;
+        for (event, row) in self.tables.closed_events().iter().zip(&self.rows) {
+            if row[resource] > 0 {
+                minutes += minutes_in(event, hour);
+            }
         }
+        minutes
     }
-    minutes
-}
 
-// The minutes by which a resource's day refund is allocated over the hours.
-fn refund_minutes(tables: &Tables, shortfalls: &EventShortfalls, resource: usize) -> [i64; HOURS]
-    requires shortfalls { ShortfallsOf (day tables.now) shortfalls.now.rows }
-    requires resource { resource < length (day tables.now).roll }
-    ensures { result ≡ map (refund_minutes_of (day tables.now) resource) hours }
-{
-    let mut minutes = [0; HOURS];
-    for hour in 0..HOURS {
-        minutes[hour] = short_minutes(tables, shortfalls, resource, hour);
+    // The part of a resource's day refund that falls to an hour, in cents: it is allocated by the minutes over all hours.
+    fn refund_part<R: AllocationRule>(
+        &self,
+        rule: &R,
+        refund: i64,
+        hour: HourPlace,
+        resource: usize,
+    ) -> i64
+        requires refund { refund ≡ day_refund (R.AllocationRule.shares rule.now) (the_day self.now.tables.now) resource }
+        requires resource { resource < length (the_day self.now.tables.now).roll }
+        ensures { result ≡ refund_part_of (R.AllocationRule.shares rule.now) (the_day self.now.tables.now) hour.place resource }
+    {
+        let minutes: [i64; HOURS] = by_place(HOURS, 0, |place| {
+            let minutes = self.short_minutes(resource, place);
+            i64::from(minutes)
+        });
+        let mut parts = [0; HOURS];
+        allocate_amount(rule, refund, &minutes, &mut parts);
+        parts[hour.index()]
     }
-    minutes
-}
 
-// The part of a resource's day refund that falls to an hour, in cents.
-fn refund_part<R: AllocationRule>(
-    rule: &R,
-    tables: &Tables,
-    shortfalls: &EventShortfalls,
-    refund: i64,
-    hour: usize,
-    resource: usize,
-) -> i64
-    requires shortfalls { ShortfallsOf (day tables.now) shortfalls.now.rows }
-    requires refund { refund ≡ day_refund (R.AllocationRule.shares rule.now) (day tables.now) resource }
-    requires hour { hour < 24 }
-    requires resource { resource < length (day tables.now).roll }
-    ensures { result ≡ refund_part_of (R.AllocationRule.shares rule.now) (day tables.now) hour resource }
-{
-    let minutes = refund_minutes(tables, shortfalls, resource);
-    let mut parts = [0; HOURS];
-    allocate_amount(rule, refund, &minutes, &mut parts);
-    parts[hour]
-}
-
-// The part of each resource's day refund that falls to an hour, in cents.
-pub fn refund_parts<R: AllocationRule>(
-    rule: &R,
-    tables: &Tables,
-    shortfalls: &EventShortfalls,
-    refunds: &[i64],
-    hour: usize,
-) -> [i64; MAX_RESOURCES]
-    requires shortfalls { ShortfallsOf (day tables.now) shortfalls.now.rows }
-    requires places { length refunds.now ≡ 16 }
-    requires refunds { (r : ℕ) → r < length (day tables.now).roll → at refunds.now r ≡ day_refund (R.AllocationRule.shares rule.now) (day tables.now) r }
-    requires hour { hour < 24 }
-    ensures { (r : ℕ) → r < length (day tables.now).roll → at result r ≡ refund_part_of (R.AllocationRule.shares rule.now) (day tables.now) hour r }
-{
-    let resources = tables.resources();
-    let mut parts = [0; MAX_RESOURCES];
-    for place in 0..resources.len() {
-        parts[place] = refund_part(rule, tables, shortfalls, refunds[place], hour, place);
+    // The part of each resource's day refund that falls to an hour, in cents.
+    pub fn refund_parts<R: AllocationRule>(
+        &self,
+        rule: &R,
+        refunds: &[i64; MAX_RESOURCES],
+        hour: HourPlace,
+    ) -> [i64; MAX_RESOURCES]
+        requires { ByResource self.now.tables.now refunds.now (day_refund (R.AllocationRule.shares rule.now) (the_day self.now.tables.now)) }
+        ensures { ByResource self.now.tables.now result (refund_part_of (R.AllocationRule.shares rule.now) (the_day self.now.tables.now) hour.place) }
+    {
+        by_resource(self.tables, |place| {
+            self.refund_part(rule, refunds[place], hour, place)
+        })
     }
-    parts
 }

@@ -1,14 +1,17 @@
-// Largest figures by resource.
-ghost use Rattle.std.specs.Prelude.{◌≡◌, ℕ, ◌<◌, length, ℤ};
+// Larger figures by resource.
+ghost use Rattle.std.specs.Prelude.{◌≡◌, ℕ, ◌<◌};
 ghost use Rattle.std.specs.Int.{int_max};
 ghost use Rattle.settlement.specs.Sums.{at};
 
-// Raises each figure to the other one at its place, where that is larger.
-pub(crate) fn raise(largest: &mut [i64], figures: &[i64])
-    requires { length figures.now ≡ length largest.old }
-    ensures { (r : ℕ) → r < length largest.old → at largest.new r ≡ int_max (at figures.now r) (at largest.old r) }
+use rolls::limits::MAX_RESOURCES;
+use settlement::figures::by_place;
+
+// The larger of two figures at each place.
+pub(crate) fn larger(
+    figures: &[i64; MAX_RESOURCES],
+    others: &[i64; MAX_RESOURCES],
+) -> [i64; MAX_RESOURCES]
+    ensures { (r : ℕ) → r < 16 → at result r ≡ int_max (at figures.now r) (at others.now r) }
 {
-    for place in 0..largest.len() {
-        largest[place] = figures[place].max(largest[place]);
-    }
+    by_place(MAX_RESOURCES, 0, |place| figures[place].max(others[place]))
 }

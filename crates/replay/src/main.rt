@@ -6,77 +6,70 @@ mod story;
 
 use allocation::cumulative::CumulativeRounding;
 use daybook::book::DayBook;
-use daybook::call::BookAnswer;
+use daybook::call::{BookAnswer, BookCall};
 use daybook::replay::{replay, replay_both};
 use events::fault::BookFault;
 use inputs::call::Answer;
 use settlement::line::Line;
-use std::io;
-use story::{ANOTHER_ORDER, EXCHANGED, HOUR, SETTLED, STORY, TRADED};
+use std::{fmt, io};
+use story::{EXCHANGED, HOUR, MEMBERS, SETTLED, TRADED, calls_in_another_order, story_calls};
 
 type Book = DayBook<CumulativeRounding>;
 
-type Response = Result<BookAnswer, BookFault>;
+// What a call answered.
+#[derive(Drop)]
+struct Response<'a>(&'a Result<BookAnswer, BookFault>);
 
-fn print_response(rt: &impl Print, number: usize, response: Response) -> io::Result<()> {
-    match response {
-        Ok(BookAnswer::Entered(Answer::Place(place))) => println!(rt; "{number}: place {place}"),
-        Ok(BookAnswer::Entered(Answer::Cleared(hours))) => {
-            println!(rt; "{number}: settled hours cleared: {hours}")
-        }
-        Ok(BookAnswer::Settled { total }) => println!(rt; "{number}: settled, {total} cents"),
-        Err(fault) => {
-            let refusal = fault.number();
-            println!(rt; "{number}: refused {refusal}")
+impl fmt::Display for Response<'_> {
+    fn fmt<W: fmt::Write>(&self, f: &mut fmt::Formatter<W>) -> fmt::Result {
+        match self.0 {
+            Ok(BookAnswer::Entered(Answer::Place(place))) => write!(f, "place {place}"),
+            Ok(BookAnswer::Entered(Answer::Cleared(hours))) => {
+                write!(f, "settled hours cleared: {hours}")
+            }
+            Ok(BookAnswer::Settled { total }) => write!(f, "settled, {total} cents"),
+            Err(fault) => write!(f, "refused {fault}"),
         }
     }
 }
 
-// Prints what the calls after the first so many answered.
-fn print_responses(rt: &impl Print, skip: usize, responses: &[Response]) -> io::Result<()> {
-    for (place, response) in responses.iter().enumerate() {
-        if place >= skip {
-            print_response(rt, place + 1, *response)?;
-        }
-    }
-    Ok(())
+// The lines of the members; a member that is not enrolled has none.
+fn lines_of(book: &Book) -> Result<[Line; 3], BookFault> {
+    MEMBERS.try_map(|code| book.line(HOUR, code.as_bytes()))
 }
 
-fn print_line(rt: &impl Print, code: &str, line: Line) -> io::Result<()> {
-    let obligation = line.obligation;
-    let adjusted = line.adjusted_obligation;
-    let clearing = line.clearing_charge;
-    let costs = line.opportunity_cost_charge;
-    let clearing_credit = line.clearing_credit;
-    let costs_credit = line.opportunity_cost_credit;
+fn print_line(rt: &impl Print, code: &str, line: &Line) -> io::Result<()> {
     println!(rt;
-        "  {code}: obligation {obligation}, adjusted {adjusted}, charged {clearing} and {costs}, credited {clearing_credit} and {costs_credit}"
+        "  {code}: obligation {}, adjusted {}, charged {} and {}, credited {} and {}",
+        line.obligation,
+        line.adjusted_obligation,
+        line.clearing_charge,
+        line.opportunity_cost_charge,
+        line.clearing_credit,
+        line.opportunity_cost_credit
     )
 }
 
-// The lines of the three members; a member that is not enrolled has none.
-fn lines_of(book: &Book) -> Result<[Line; 3], BookFault> {
-    Ok([
-        book.line(HOUR, b"AA")?,
-        book.line(HOUR, b"BB")?,
-        book.line(HOUR, b"CC")?,
-    ])
+// What the credits of the lines come to less the charges.
+fn balance<F: Fn(&Line) -> (i64, i64)>(lines: &[Line], credit_and_charge: F) -> i64
+    requires { F.IsAlwaysCallable credit_and_charge }
+{
+    // A loop: that the closure may be called in a fold over `map` would have to be asked of each of its values.
+    let mut sum = 0i64;
+    for line in lines {
+        let (credit, charge) = credit_and_charge(line);
+        sum = sum.saturating_add(credit).saturating_sub(charge);
+    }
+    sum
 }
 
-// Prints what credits come to less charges.
 fn print_balance(rt: &impl Print, lines: &[Line]) -> io::Result<()> {
-    let mut clearing = 0i64;
-    let mut costs = 0i64;
-    let mut refunds = 0i64;
-    for line in lines {
-        let line = *line;
-        clearing = clearing.saturating_add(line.clearing_credit);
-        clearing = clearing.saturating_sub(line.clearing_charge);
-        costs = costs.saturating_add(line.opportunity_cost_credit);
-        costs = costs.saturating_sub(line.opportunity_cost_charge);
-        refunds = refunds.saturating_add(line.refund_paid);
-        refunds = refunds.saturating_sub(line.refund_charged);
-    }
+    let clearing = balance(lines, |line| (line.clearing_credit, line.clearing_charge));
+    let costs = balance(
+        lines,
+        |line| (line.opportunity_cost_credit, line.opportunity_cost_charge),
+    );
+    let refunds = balance(lines, |line| (line.refund_paid, line.refund_charged));
     println!(rt;
         "  credits less charges: clearing {clearing}, lost opportunity cost {costs}, refunds {refunds}"
     )
@@ -84,28 +77,32 @@ fn print_balance(rt: &impl Print, lines: &[Line]) -> io::Result<()> {
 
 // Prints the lines of the hour with their balance.
 fn print_lines(rt: &impl Print, book: &Book) -> io::Result<()> {
-    let lines = match lines_of(book) {
-        Ok(lines) => lines,
-        Err(_) => return println!(rt; "  no lines"),
+    let Ok(lines) = lines_of(book) else {
+        return println!(rt; "  no lines");
     };
-    print_line(rt, "AA", lines[0])?;
-    print_line(rt, "BB", lines[1])?;
-    print_line(rt, "CC", lines[2])?;
+    for (code, line) in MEMBERS.iter().zip(&lines) {
+        print_line(rt, code, line)?;
+    }
     print_balance(rt, &lines)
 }
 
+// Plays the calls, and prints what each after the first so many answered and the lines of the hour.
+fn play(rt: &impl Print, calls: &[BookCall<'_>], skip: usize) -> io::Result<()> {
+    // What stands in the places does not matter: each is written over by the answer to its call.
+    let mut responses = [Err(BookFault::BadHour); EXCHANGED];
+    let book = replay(CumulativeRounding, calls, &mut responses);
+    for (number, response) in (1..=calls.len()).zip(&responses).skip(skip) {
+        println!(rt; "{number}: {}", Response(response))?;
+    }
+    print_lines(rt, &book)
+}
+
 fn main(rt: HostRuntime) -> io::Result<()> {
-    let mut responses: [Response; EXCHANGED] = [Err(BookFault::BadHour); EXCHANGED];
-    let book = replay(CumulativeRounding, &STORY[0..SETTLED], &mut responses);
-    print_responses(&rt, 0, &responses[0..SETTLED])?;
-    print_lines(&rt, &book)?;
-    let book = replay(CumulativeRounding, &STORY[0..TRADED], &mut responses);
-    print_responses(&rt, SETTLED, &responses[0..TRADED])?;
-    print_lines(&rt, &book)?;
-    let book = replay(CumulativeRounding, &STORY, &mut responses);
-    print_responses(&rt, TRADED, &responses)?;
-    print_lines(&rt, &book)?;
-    let (story, other) = replay_both(CumulativeRounding, &STORY, &ANOTHER_ORDER);
+    let calls = story_calls();
+    play(&rt, &calls[..SETTLED], 0)?;
+    play(&rt, &calls[..TRADED], SETTLED)?;
+    play(&rt, &calls, TRADED)?;
+    let (story, other) = replay_both(CumulativeRounding, &calls, &calls_in_another_order());
     match (lines_of(&story), lines_of(&other)) {
         (Ok(first), Ok(second)) if first == second => {
             println!(rt; "entered in another order: the same lines")

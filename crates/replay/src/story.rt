@@ -6,6 +6,8 @@ use inputs::call::Call;
 
 pub(crate) const HOUR: u64 = 18;
 
+pub(crate) const MEMBERS: [&str; 3] = ["AA", "BB", "CC"];
+
 // After so many calls of the story the hour is settled, settled again with a late trade,
 // and settled once more with the trade the other way round.
 pub(crate) const SETTLED: usize = 10;
@@ -14,120 +16,91 @@ pub(crate) const TRADED: usize = 12;
 
 pub(crate) const EXCHANGED: usize = 15;
 
-pub(crate) const STORY: [BookCall<'static>; EXCHANGED] = [
-    BookCall::Enter(Call::Enrol { code: b"AA" }),
-    BookCall::Enter(Call::Enrol { code: b"BB" }),
-    BookCall::Enter(Call::Enrol { code: b"CC" }),
-    BookCall::Enter(Call::Register {
-        code: b"G1",
-        owner: b"AA",
-        kind: ResourceKind::Generator,
-        interval_price_sum: 0,
-    }),
+const GENERATOR: BookCall<'static> = BookCall::Enter(Call::Register {
+    code: b"G1",
+    owner: b"AA",
+    kind: ResourceKind::Generator,
+    interval_price_sum: 0,
+});
+
+const ASSIGNMENT: BookCall<'static> = BookCall::Enter(Call::Assign {
+    hour: HOUR,
+    resource: b"G1",
+    assignment: Assignment::PoolScheduled {
+        kwh: 1000,
+        offer: 250,
+        costs: 900,
+    },
+});
+
+const SETTLE: BookCall<'static> = BookCall::Settle { hour: HOUR };
+
+fn enrol(code: &'static [u8]) -> BookCall<'static> {
+    BookCall::Enter(Call::Enrol { code })
+}
+
+fn price(synchronized: u64) -> BookCall<'static> {
     BookCall::Enter(Call::SetPrices {
         hour: HOUR,
-        synchronized: 1001,
+        synchronized,
         non_synchronized: 0,
-    }),
+    })
+}
+
+fn load(member: &'static [u8]) -> BookCall<'static> {
     BookCall::Enter(Call::SetLoad {
         hour: HOUR,
-        member: b"AA",
+        member,
         kwh: 30_000,
-    }),
-    BookCall::Enter(Call::SetLoad {
-        hour: HOUR,
-        member: b"BB",
-        kwh: 30_000,
-    }),
-    BookCall::Enter(Call::SetLoad {
-        hour: HOUR,
-        member: b"CC",
-        kwh: 30_000,
-    }),
-    BookCall::Enter(Call::Assign {
-        hour: HOUR,
-        resource: b"G1",
-        assignment: Assignment::PoolScheduled {
-            kwh: 1000,
-            offer: 250,
-            costs: 900,
-        },
-    }),
-    BookCall::Settle { hour: HOUR },
+    })
+}
+
+fn trade(seller: &'static [u8], buyer: &'static [u8], kwh: u64) -> BookCall<'static> {
     BookCall::Enter(Call::SetTrade {
         hour: HOUR,
-        seller: b"CC",
-        buyer: b"BB",
-        kwh: 100,
-    }),
-    BookCall::Settle { hour: HOUR },
-    BookCall::Enter(Call::SetTrade {
-        hour: HOUR,
-        seller: b"CC",
-        buyer: b"BB",
-        kwh: 0,
-    }),
-    BookCall::Enter(Call::SetTrade {
-        hour: HOUR,
-        seller: b"BB",
-        buyer: b"CC",
-        kwh: 100,
-    }),
-    BookCall::Settle { hour: HOUR },
-];
+        seller,
+        buyer,
+        kwh,
+    })
+}
+
+// The calls of the story in their order.
+pub(crate) fn story_calls() -> [BookCall<'static>; EXCHANGED] {
+    [
+        enrol(b"AA"),
+        enrol(b"BB"),
+        enrol(b"CC"),
+        GENERATOR,
+        price(1001),
+        load(b"AA"),
+        load(b"BB"),
+        load(b"CC"),
+        ASSIGNMENT,
+        SETTLE,
+        trade(b"CC", b"BB", 100),
+        SETTLE,
+        trade(b"CC", b"BB", 0),
+        trade(b"BB", b"CC", 100),
+        SETTLE,
+    ]
+}
 
 // The same inputs in another order, with a price corrected, a call refused and an hour settled too early.
-pub(crate) const ANOTHER_ORDER: [BookCall<'static>; 14] = [
-    BookCall::Enter(Call::Enrol { code: b"AA" }),
-    BookCall::Enter(Call::Enrol { code: b"BB" }),
-    BookCall::Enter(Call::Enrol { code: b"CC" }),
-    BookCall::Settle { hour: HOUR },
-    BookCall::Enter(Call::SetTrade {
-        hour: HOUR,
-        seller: b"BB",
-        buyer: b"CC",
-        kwh: 100,
-    }),
-    BookCall::Enter(Call::SetLoad {
-        hour: HOUR,
-        member: b"CC",
-        kwh: 30_000,
-    }),
-    BookCall::Enter(Call::Register {
-        code: b"G1",
-        owner: b"AA",
-        kind: ResourceKind::Generator,
-        interval_price_sum: 0,
-    }),
-    BookCall::Enter(Call::SetPrices {
-        hour: HOUR,
-        synchronized: 1010,
-        non_synchronized: 0,
-    }),
-    BookCall::Enter(Call::Assign {
-        hour: HOUR,
-        resource: b"G1",
-        assignment: Assignment::PoolScheduled {
-            kwh: 1000,
-            offer: 250,
-            costs: 900,
-        },
-    }),
-    BookCall::Enter(Call::SetLoad {
-        hour: HOUR,
-        member: b"BB",
-        kwh: 30_000,
-    }),
-    BookCall::Enter(Call::Enrol { code: b"AA" }),
-    BookCall::Enter(Call::SetLoad {
-        hour: HOUR,
-        member: b"AA",
-        kwh: 30_000,
-    }),
-    BookCall::Enter(Call::SetPrices {
-        hour: HOUR,
-        synchronized: 1001,
-        non_synchronized: 0,
-    }),
-    BookCall::Settle { hour: HOUR },
-];
+pub(crate) fn calls_in_another_order() -> [BookCall<'static>; 14] {
+    [
+        enrol(b"AA"),
+        enrol(b"BB"),
+        enrol(b"CC"),
+        SETTLE,
+        trade(b"BB", b"CC", 100),
+        load(b"CC"),
+        GENERATOR,
+        price(1010),
+        ASSIGNMENT,
+        load(b"BB"),
+        enrol(b"AA"),
+        load(b"AA"),
+        price(1001),
+        SETTLE,
+    ]
+}

@@ -1,8 +1,6 @@
 -- The first n elements of a list.
-use Rattle.std.proofs.Common.{◌≡◌, ℕ, zero, suc, ◌+◌, ◌<◌, ◌≤◌, List, [], ◌∷◌, length, get_or, take, set, Some, sum_by, refl, ap, ◌∙◌, inl, inr, arith}
-use Rattle.std.specs.List.{slice_get}
-use Rattle.std.proofs.lemmas.List.{length-set, length-take, get_or-take, get_or-set_same, get_or-set_other}
-use Rattle.std.proofs.lemmas.Option.{slice_get-get_or}
+use Rattle.std.proofs.Common.{◌≡◌, ℕ, zero, suc, ◌+◌, ◌<◌, ◌≤◌, List, [], ◌∷◌, length, get_or, take, set, sum_by, refl, ap, ◌∙◌, inl, inr, arith}
+use Rattle.std.proofs.lemmas.List.{length-set, length-take, get_or-set_same, get_or-set_other}
 use Rattle.std.proofs.lemmas.List.Sums.{sum_by_more, sum_by-set}
 use Rattle.std.proofs.lemmas.Bool.{cases_eq}
 
@@ -12,12 +10,6 @@ take_set_any zero xs i y = refl
 take_set_any (suc n) [] i y = refl
 take_set_any (suc n) (x ∷ xs) zero y = refl
 take_set_any (suc n) (x ∷ xs) (suc i) y = ap (λ zs. x ∷ zs) (take_set_any n xs i y)
-
--- what stands in the front
-pub nth_front : {X : Type 0} (n : ℕ) (xs : List X) (i : ℕ) (d : X) → i < n → n ≤ length xs → Some (get_or xs i d) ≡ slice_get (take n xs) i
-nth_front n xs i d l m =
-    let within : i < length (take n xs) = omega (arith, length-take n xs) in
-    rw (slice_get-get_or (take n xs) i d within, get_or-take n xs i d l)
 
 -- writing the element at j elsewhere leaves it at j
 copied : {X : Type 0} (xs : List X) (i j : ℕ) (d : X) → j < length xs → get_or (set xs i (get_or xs j d)) j d ≡ get_or xs j d

@@ -1,13 +1,15 @@
 -- Keys that tell elements apart, and texts that codes tell apart.
 use Rattle.std.proofs.Common.{◌≡◌, ℕ, ◌+◌, ◌-◌, ◌<◌, ◌≤◌, Bool, true, cond, List, [], ◌∷◌, ◌++◌, length, get_or, take, Some, None, Decides, count_by, sym, refl, ap, ◌∙◌, inl, inr, arith}
+use Rattle.std.specs.List.{list_all}
 use Rattle.std.specs.Str.{bytes_eq}
 use Rattle.std.proofs.lemmas.Slice.Eq.{bytes_eq-Decides}
 use Rattle.std.proofs.lemmas.List.{length-take, get_or-take}
 use Rattle.std.proofs.lemmas.List.Sums.{sum_by_push, sum_by-take-le, get_or-le-sum_by, count_by_more_yes}
 use Rattle.std.proofs.lemmas.Bool.{cases_Bool, cases_order}
 use Rattle.std.proofs.lemmas.Bool.Decides.{Decides-like, nat_tests}
-use Rattle.rolls.specs.Codes.{all_signs, good, code_of, text_of}
-use Rattle.rolls.specs.Places.{place_by, Apart}
+use Rattle.rolls.specs.Codes.{is_sign, good, code_of, text_of}
+use Rattle.std.specs.Prelude.{position}
+use Rattle.rolls.specs.Places.{Apart}
 use Rattle.rolls.specs.declared.code.Code.{Code}
 use Rattle.rolls.proofs.Padded.{before_zeros}
 use Rattle.rolls.proofs.Places.{place_some, place_missing}
@@ -16,7 +18,7 @@ abbrev one : Bool → ℕ
 one b = cond b 1 0
 
 -- an element whose only key is new keeps keys apart
-pub apart_push : {X K : Type 0} (matches : X → K → Bool) (xs : List X) (x : X) (k : K) → Apart matches xs → place_by (λ y. matches y k) xs ≡ None → ((j : K) → matches x j ≡ true → j ≡ k) → Apart matches (xs ++ x ∷ [])
+pub apart_push : {X K : Type 0} (matches : X → K → Bool) (xs : List X) (x : X) (k : K) → Apart matches xs → position (λ y. matches y k) xs ≡ None → ((j : K) → matches x j ≡ true → j ≡ k) → Apart matches (xs ++ x ∷ [])
 apart_push {K} matches xs x k apart new only j =
     let more = sum_by_push (λ y. one (matches y j)) xs x in
     elim (cases_Bool (matches x j)) [
@@ -34,7 +36,7 @@ two {X} p xs i j d l m a b =
     omega (arith, first, get_or-le-sum_by f (take j xs) i d inside, count_by_more_yes p xs j d m b, sum_by-take-le f xs (j + 1))
 
 -- what is found by a key is the only element with it
-pub found_is_it : {X K : Type 0} (matches : X → K → Bool) (xs : List X) (k : K) (i j : ℕ) (d : X) → Apart matches xs → place_by (λ y. matches y k) xs ≡ Some i → j < length xs → matches (get_or xs j d) k ≡ true → i ≡ j
+pub found_is_it : {X K : Type 0} (matches : X → K → Bool) (xs : List X) (k : K) (i j : ℕ) (d : X) → Apart matches xs → position (λ y. matches y k) xs ≡ Some i → j < length xs → matches (get_or xs j d) k ≡ true → i ≡ j
 found_is_it {X} matches xs k i j d apart found l h =
     let p : X → Bool = λ y. matches y k in
     let at = place_some p xs i found in
@@ -58,7 +60,7 @@ pub code_itself : (a : Code) → bytes_eq a.signs a.signs ≡ true
 code_itself a = (code_decides a a).1 refl
 
 good_signs : (t : List ℕ) → good t ≡ true → text_of (code_of t) ≡ t
-good_signs t e = let all : all_signs t ≡ true = grind (arith, nat_tests) in before_zeros t (6 - length t) all
+good_signs t e = let all : list_all is_sign t ≡ true = grind (arith, nat_tests) in before_zeros t (6 - length t) all
 
 -- good texts with one code are one text
 pub good_texts : (a b : List ℕ) → good a ≡ true → good b ≡ true → code_of a ≡ code_of b → a ≡ b

@@ -1,3 +1,3 @@
 pub mod Places
 pub mod Codes
-pub mod Items
+pub mod Hours

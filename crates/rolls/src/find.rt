@@ -1,6 +1,5 @@
-// Finding by key: one text for members, resources and trades.
-ghost use Rattle.std.specs.Prelude.{◌≡◌, ◌<◌, Bool, length, IfSome};
-ghost use Rattle.rolls.specs.Places.{place_by};
+// Finding by key: one function for members, resources and trades.
+ghost use Rattle.std.specs.Prelude.{◌≡◌, ◌<◌, Bool, length, IfSome, position};
 
 // What is found by a key.
 pub trait Keyed {
@@ -15,13 +14,8 @@ pub trait Keyed {
 
 // The first place whose element has the key.
 pub fn find<X: Keyed>(items: &[X], key: &X::Key) -> Option<usize>
-    ensures value { result ≡ place_by (λ x. X.matches x key.now) items.now }
+    ensures value { result ≡ position (λ x. X.matches x key.now) items.now }
     ensures within { IfSome result (λ i. i < length items.now) }
 {
-    for (i, x) in items.iter().enumerate() {
-        if x.has_key(key) {
-            return Some(i);
-        }
-    }
-    None
+    items.iter().position(|x| x.has_key(key))
 }

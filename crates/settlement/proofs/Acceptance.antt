@@ -2,7 +2,7 @@
 use Rattle.std.proofs.Common.{◌≡◌, ℕ, ◌*◌, ◌<◌, ◌≤◌, Bool, true, false, cond, ◌&&◌, eqb, List, map, length, ℤ, pos, ◌+ℤ◌, ◌-ℤ◌, ◌*ℤ◌, nat_abs, ◌≤ℤ◌, ◌<ℤ◌, sym, refl, ap, ◌∙◌, subst, inl, inr, arith, lit≤}
 use lib.Signed.{lt_z}
 use Rattle.std.specs.Int.{int_max}
-use Rattle.std.specs.List.{AllByRecursion as All}
+use Rattle.std.specs.List.{All}
 use Rattle.std.proofs.lemmas.Int.{ints, clamps}
 use Rattle.std.proofs.lemmas.Bool.Decides.{nat_tests}
 use Rattle.std.proofs.lemmas.List.FromFn.{length-range_with_len, length-map-range_with_len, fill_by_all}
@@ -22,7 +22,7 @@ use Rattle.settlement.proofs.Shares.{allocated_length}
 use Rattle.settlement.proofs.Balances.{allocated_all}
 use Rattle.settlement.proofs.Obligations.{total_adjusted}
 use Rattle.settlement.proofs.Bounds.{zero_or_above, product_above, product_left, magnitude_le, at_above, largest_above, thousand_below, thousand_above, admissible, share_above, share_part, one_le, not_all_zero, above_test, not_both}
-use Rattle.settlement.proofs.Refunds.{everywhere, floored_above, floored_below, assigned_small, all_shortfalls_accepted, refunds_accepted, part_bounds}
+use Rattle.settlement.proofs.Refunds.{everywhere, not_over, floored_above, floored_below, assigned_small, all_shortfalls_accepted, refunds_accepted, part_bounds}
 
 -- ---- credits of a resource
 
@@ -62,10 +62,6 @@ cost_bounds (PoolScheduled n o f) z c s h k l = by (eqb n 0) refl
 weight_size : (b : Bool) (o s p n : ℤ) → pos 0 ≤ℤ o → pos 0 ≤ℤ s → pos 0 ≤ℤ p → pos 0 ≤ℤ n → pos (nat_abs (cond b (pos 0) (int_max (o +ℤ (s -ℤ p) -ℤ n) (pos 0)))) ≤ℤ (o +ℤ (s +ℤ p))
 weight_size true o s p n ho hs hp hn = omega (arith, ints)
 weight_size false o s p n ho hs hp hn = omega (arith, ints, clamps)
-
-weight_above : (b : Bool) (z : ℤ) → pos 0 ≤ℤ cond b (pos 0) (int_max z (pos 0))
-weight_above true z = omega (arith, ints)
-weight_above false z = floored_above z
 
 pub not_zero : (z : ℤ) → pos 0 ≤ℤ z → is_zero z ≡ false → pos 0 <ℤ z
 not_zero z h e = elim (zero_or_above z h) [ inl p ↦ let q : is_zero z ≡ true = ap is_zero p in let c : ◌≡◌ {A = ℕ} 0 1 = cc in absurd (omega arith) | inr l ↦ l ]
@@ -251,7 +247,7 @@ module _ (d : Day) (k : ℕ) (x : Hour) (q : Sales) (b : Bounded d k x q) where
 
     pub refund_weight_above : (m : ℕ) → pos 0 ≤ℤ refund_weight t d k x q m
     unfolding refund_weight
-    refund_weight_above m = weight_above (is_refunding t d m) (adjusted_obligation_of t d k x q m -ℤ own d m (delivered_tier_one d k))
+    refund_weight_above m = not_over (is_refunding t d m) (adjusted_obligation_of t d k x q m -ℤ own d m (delivered_tier_one d k))
 
     -- ---- the three that are paid by weights of members
 

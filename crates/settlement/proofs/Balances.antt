@@ -1,9 +1,9 @@
 -- Credits and charges of an hour balance.
-use Rattle.std.proofs.Common.{◌≡◌, ℕ, ◌<◌, cond, List, map, length, ℤ, pos, ◌-ℤ◌, ◌∙◌, arith}
+use Rattle.std.proofs.Common.{◌≡◌, ℕ, ◌<◌, List, map, length, ℤ, pos, ◌-ℤ◌, ◌∙◌, arith}
 use Rattle.std.proofs.lemmas.Int.{ints}
 use Rattle.std.proofs.lemmas.List.FromFn.{length-map-range_with_len}
 use Rattle.hours.specs.declared.hour.Hour.{Hour}
-use Rattle.settlement.specs.Sums.{sum, at, Meaning, allocated, all_zero}
+use Rattle.settlement.specs.Sums.{sum, at, Meaning, allocated, or_else}
 use Rattle.settlement.specs.Days.{Day, members, resources, resource, load, Sales}
 use Rattle.settlement.specs.Shortfalls.{refund_part}
 use Rattle.settlement.specs.Settlement.{line, own, clearing_credit_of, opportunity_cost_credit_of, total_clearing, total_opportunity_cost, total_refund, obligations, adjusted_obligation_of, adjusted_obligations, purchase, buyers, refund_weight, payees, clearing_charges, opportunity_cost_charges, refunds_paid}
@@ -19,7 +19,7 @@ module _ (d : Day) (owners : (r : ℕ) → r < length d.roll → (resource d r).
 pub allocated_all : (t : Meaning) (d : Day) (a : ℤ) (ws : List ℤ) → Lawful t → Allocable a ws → length ws ≡ d.member_count → sum (members d) (at (allocated t a ws)) ≡ a
 allocated_all t d a ws l h e = sum_at (allocated t a ws) d.member_count (allocated_length t a ws l h ∙ e) ∙ allocated_total t a ws l h
 
-or_else_length : (ws vs : List ℤ) (n : ℕ) → length ws ≡ n → length vs ≡ n → length (cond (all_zero ws) vs ws) ≡ n
+pub or_else_length : (ws vs : List ℤ) (n : ℕ) → length ws ≡ n → length vs ≡ n → length (or_else ws vs) ≡ n
 or_else_length ws vs n e f = grind arith
 
 level : (a b x : ℤ) → a ≡ x → b ≡ x → a -ℤ b ≡ pos 0

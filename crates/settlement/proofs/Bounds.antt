@@ -4,17 +4,19 @@ use borrow.Author.Differences.{le_out}
 use lib.IntN.{*ℤ_comm}
 use lib.Signed.{lt_z}
 use Rattle.std.specs.Int.{int_max}
-use Rattle.std.specs.List.{range_with_len, AllByRecursion as All}
+use Rattle.std.specs.List.{range_with_len, All}
 use Rattle.std.proofs.lemmas.Int.{ints, clamps, by_lt_z}
-use Rattle.std.proofs.ByRecursion.{All-weaker}
+use Rattle.std.proofs.lemmas.List.Elements.{All-head, All-tail, All-weaker, All-filter}
+use Rattle.std.proofs.lemmas.List.Sums.{length-filter, count_by-le-length}
 use Rattle.allocation.specs.Weights.{total, magnitude}
 use Rattle.allocation.specs.Rounding.{half_up}
 use Rattle.allocation.specs.Refusals.{Admissible}
 use Rattle.allocation.specs.RoundingLemmas.{half_up_low, half_up_high}
 use Rattle.allocation.specs.Products.{next_multiple}
 use Rattle.settlement.specs.Sums.{sum, largest, is_zero, all_zero, at, Meaning, allocated}
+use Rattle.settlement.specs.Days.{Day, resources, owns, owned}
 use Rattle.settlement.specs.Laws.{Lawful, Allocable}
-use Rattle.settlement.proofs.Sums.{sum_above}
+use Rattle.settlement.proofs.Sums.{sum_above, all_counting}
 use Rattle.settlement.proofs.Shares.{cases, at_zeros, allocated_near}
 
 -- ---- integers
@@ -45,53 +47,37 @@ above_next p w h k = by_lt_z p (pos 0) (λ l. let m = next_multiple p (pos 0) w 
 
 pub magnitude_le : {X : Type 0} (xs : List X) (f g : X → ℤ) → All (λ x. pos (nat_abs (f x)) ≤ℤ g x) xs → pos (magnitude (map f xs)) ≤ℤ sum xs g
 magnitude_le [] f g h = omega (arith, ints)
-magnitude_le (x ∷ xs) f g h = let i = magnitude_le xs f g h.1 in let e = h.0 in omega (arith, ints)
+magnitude_le {X} (x ∷ xs) f g h = let P = λ (x : X). pos (nat_abs (f x)) ≤ℤ g x in let i = magnitude_le xs f g (All-tail P x xs h) in let e = All-head P x xs h in omega (arith, ints)
 
 pub one_le : {X : Type 0} (xs : List X) (f : X → ℤ) (k : ℕ) → All (λ x. pos 0 ≤ℤ f x) xs → at (map f xs) k ≤ℤ sum xs f
 one_le [] f k h = omega (arith, ints)
-one_le (x ∷ xs) f zero h = let i = sum_above xs f h.1 in omega (arith, ints)
-one_le (x ∷ xs) f (suc k) h = let i = one_le xs f k h.1 in let e = h.0 in omega (arith, ints)
+one_le (x ∷ xs) f zero h = let i = sum_above xs f (All-tail (λ x. pos 0 ≤ℤ f x) x xs h) in omega (arith, ints)
+one_le (x ∷ xs) f (suc k) h = let i = one_le xs f k (All-tail (λ x. pos 0 ≤ℤ f x) x xs h) in let e = All-head (λ x. pos 0 ≤ℤ f x) x xs h in omega (arith, ints)
 
 pub at_above : {X : Type 0} (xs : List X) (f : X → ℤ) (k : ℕ) → All (λ x. pos 0 ≤ℤ f x) xs → pos 0 ≤ℤ at (map f xs) k
 at_above [] f k h = omega (arith, ints)
-at_above (x ∷ xs) f zero h = h.0
-at_above (x ∷ xs) f (suc k) h = at_above xs f k h.1
+at_above (x ∷ xs) f zero h = All-head (λ x. pos 0 ≤ℤ f x) x xs h
+at_above (x ∷ xs) f (suc k) h = at_above xs f k (All-tail (λ x. pos 0 ≤ℤ f x) x xs h)
 
 -- weights that are not negative, and not all zero
 pub not_all_zero : {X : Type 0} (xs : List X) (f : X → ℤ) → All (λ x. pos 0 ≤ℤ f x) xs → all_zero (map f xs) ≡ false → pos 0 <ℤ sum xs f
 not_all_zero [] f h e = let z : ◌≡◌ {A = ℕ} 0 1 = cc in absurd (omega arith)
 not_all_zero (x ∷ xs) f h e =
-    let s = sum_above xs f h.1 in
-    elim (zero_or_above (f x) h.0) [
-      | inl z ↦ let i = not_all_zero xs f h.1 (sym (ap (λ (y : ℤ). is_zero y && all_zero (map f xs)) z) ∙ e) in omega (arith, ints)
+    let rest = All-tail (λ x. pos 0 ≤ℤ f x) x xs h in
+    let s = sum_above xs f rest in
+    elim (zero_or_above (f x) (All-head (λ x. pos 0 ≤ℤ f x) x xs h)) [
+      | inl z ↦ let i = not_all_zero xs f rest (sym (ap (λ (y : ℤ). is_zero y && all_zero (map f xs)) z) ∙ e) in omega (arith, ints)
       | inr l ↦ omega (arith, ints)
     ]
 
 -- ---- what is kept of a list
 
-pub all_kept : {X : Type 0} (P : X → Type 0) (p : X → Bool) (xs : List X) → All P xs → All P (filter p xs)
-all_kept P p [] h = tt
-all_kept P p (x ∷ xs) h = by (p x) (all_kept P p xs h.1)
-  where
-    by : (b : Bool) → All P (filter p xs) → All P (cond b (x ∷ filter p xs) (filter p xs))
-    by true i = (h.0, i)
-    by false i = i
-
-pub kept_passes : {X : Type 0} (p : X → Bool) (xs : List X) → All (λ x. p x ≡ true) (filter p xs)
-kept_passes p [] = tt
-kept_passes p (x ∷ xs) = by (p x) refl (kept_passes p xs)
-  where
-    by : (b : Bool) → p x ≡ b → All (λ x. p x ≡ true) (filter p xs) → All (λ x. p x ≡ true) (cond b (x ∷ filter p xs) (filter p xs))
-    by true e i = (e, i)
-    by false e i = i
-
 pub kept_length : {X : Type 0} (p : X → Bool) (xs : List X) → length (filter p xs) ≤ length xs
-kept_length p [] = omega arith
-kept_length p (x ∷ xs) = by (p x) (kept_length p xs)
-  where
-    by : (b : Bool) → length (filter p xs) ≤ length xs → length (cond b (x ∷ filter p xs) (filter p xs)) ≤ suc (length xs)
-    by true i = omega arith
-    by false i = omega arith
+kept_length p xs = rw (length-filter p xs) (count_by-le-length p xs)
+
+-- what holds of every resource holds of an owner's
+pub all_owned : (d : Day) (P : ℕ → Type 0) (m : ℕ) → ((r : ℕ) → r < length d.roll → P r) → All P (owned d m (resources d))
+all_owned d P m h = All-filter (owns d m) P (resources d) (all_counting P 0 (length d.roll) (λ r l. h r (omega arith)))
 
 -- the place of one that is kept is the number kept before it
 pub kept_at : (p : ℕ → Bool) (f : ℕ → ℤ) (a i n : ℕ) → i < n → p (a + i) ≡ true
@@ -121,17 +107,20 @@ largest_above (x ∷ xs) f = let i = largest_above xs f in omega (arith, ints, c
 
 pub largest_below : {X : Type 0} (xs : List X) (f : X → ℤ) (b : ℤ) → pos 0 ≤ℤ b → All (λ x. f x ≤ℤ b) xs → largest xs f ≤ℤ b
 largest_below [] f b z h = z
-largest_below (x ∷ xs) f b z h = let i = largest_below xs f b z h.1 in let e = h.0 in omega (arith, ints, clamps)
+largest_below (x ∷ xs) f b z h = let i = largest_below xs f b z (All-tail (λ x. f x ≤ℤ b) x xs h) in let e = All-head (λ x. f x ≤ℤ b) x xs h in omega (arith, ints, clamps)
 
 -- nothing is kept, and what is not kept has none
 pub largest_none : {X : Type 0} (p : X → Bool) (xs : List X) (f g : X → ℤ) → All (λ x. p x ≡ false → f x ≤ℤ pos 0) xs → All (λ x. pos 1 ≤ℤ g x) xs
     → sum (filter p xs) g ≡ pos 0 → largest xs f ≡ pos 0
 largest_none p [] f g h k e = refl
-largest_none p (x ∷ xs) f g h k e = by (p x) refl e (largest_none p xs f g h.1 k.1)
+largest_none p (x ∷ xs) f g h k e = by (p x) refl e (largest_none p xs f g (All-tail (λ x. p x ≡ false → f x ≤ℤ pos 0) x xs h) some)
   where
+    some : All (λ x. pos 1 ≤ℤ g x) xs
+    some = All-tail (λ x. pos 1 ≤ℤ g x) x xs k
+
     by : (b : Bool) → p x ≡ b → sum (cond b (x ∷ filter p xs) (filter p xs)) g ≡ pos 0 → (sum (filter p xs) g ≡ pos 0 → largest xs f ≡ pos 0) → int_max (f x) (largest xs f) ≡ pos 0
-    by true y z again = let s = sum_above (filter p xs) g (all_kept (λ x. pos 0 ≤ℤ g x) p xs (All-weaker (λ x. pos 1 ≤ℤ g x) (λ x. pos 0 ≤ℤ g x) (λ x l. omega (arith, ints)) xs k.1)) in let l = k.0 in absurd (omega (arith, ints))
-    by false y z again = let i = again z in let l = h.0 y in omega (arith, ints, clamps)
+    by true y z again = let s = sum_above (filter p xs) g (All-filter p (λ x. pos 0 ≤ℤ g x) xs (All-weaker (λ x. pos 1 ≤ℤ g x) (λ x. pos 0 ≤ℤ g x) (λ x l. omega (arith, ints)) xs some)) in let l = All-head (λ x. pos 1 ≤ℤ g x) x xs k in absurd (omega (arith, ints))
+    by false y z again = let i = again z in let l = All-head (λ x. p x ≡ false → f x ≤ℤ pos 0) x xs h y in omega (arith, ints, clamps)
 
 -- ---- rounding
 

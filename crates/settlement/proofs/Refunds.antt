@@ -1,14 +1,14 @@
 -- Shortfalls and refunds are small, and no allocation of theirs is refused.
-use Rattle.std.proofs.Common.{◌≡◌, ℕ, zero, suc, ◌+◌, ◌-◌, ◌*◌, ◌/◌, ◌<◌, ◌≤◌, min, max, Bool, true, false, cond, eqb, List, [], ◌∷◌, map, length, ℤ, pos, ◌+ℤ◌, ◌-ℤ◌, ◌*ℤ◌, nat_abs, ◌≤ℤ◌, Some, None, filter, Option, sym, refl, ap, ◌∙◌, inl, inr, zero-add, arith, lit≤}
+use Rattle.std.proofs.Common.{◌≡◌, ℕ, zero, suc, ◌+◌, ◌-◌, ◌*◌, ◌/◌, ◌<◌, ◌≤◌, min, max, Bool, true, false, cond, eqb, List, map, length, ℤ, pos, ◌+ℤ◌, ◌-ℤ◌, ◌*ℤ◌, nat_abs, ◌≤ℤ◌, Some, None, filter, Option, sym, refl, ap, ◌∙◌, inl, inr, zero-add, arith, lit≤}
 use lib.Signed.{lt_z}
 use Rattle.std.specs.Int.{int_max}
-use Rattle.std.specs.List.{range_with_len, AllByRecursion as All}
+use Rattle.std.specs.List.{range_with_len, All}
 use Rattle.std.proofs.lemmas.Int.{ints, clamps}
 use Rattle.std.proofs.lemmas.Bool.Decides.{nat_tests}
 use Rattle.std.proofs.lemmas.Bool.{eq-eqb}
 use Rattle.std.proofs.lemmas.List.{length-map}
 use Rattle.std.proofs.lemmas.List.FromFn.{length-range_with_len, length-map-range_with_len}
-use Rattle.std.proofs.ByRecursion.{All-weaker}
+use Rattle.std.proofs.lemmas.List.Elements.{All-weaker, All-filter, filter_passes}
 use Rattle.events.specs.declared.event.Event.{Event}
 use Rattle.events.specs.declared.event.Reading.{Reading}
 use Rattle.events.specs.declared.resource.ResourceKind.{ResourceKind}
@@ -17,8 +17,8 @@ use Rattle.settlement.specs.Sums.{sum, at, is_zero, Meaning}
 use Rattle.settlement.specs.Days.{Day, resources, hours, resource, owns, owned, assigned, reading}
 use Rattle.settlement.specs.Shortfalls.{minutes_in, counts, rise, response_of, counted, response, held, shortfall, over_response, net_shortfall, refund_minutes, retroactive_shortfalls, retroactive_shortfall, largest_shortfall, day_refund, refund_part}
 use Rattle.settlement.specs.Laws.{Lawful, Allocable, BoundedDay}
-use Rattle.settlement.proofs.Sums.{sum_above, sum_below, sum_swap, all_counting}
-use Rattle.settlement.proofs.Bounds.{zero_or_above, product_above, product_left, magnitude_le, one_le, at_above, all_kept, kept_passes, kept_length, kept_at, largest_above, largest_below, largest_none, thousand_below, thousand_above, admissible, share_above, share_below, share_part}
+use Rattle.settlement.proofs.Sums.{sum_above, sum_below, sum_swap}
+use Rattle.settlement.proofs.Bounds.{zero_or_above, product_above, product_left, magnitude_le, one_le, at_above, kept_length, all_owned, kept_at, largest_above, largest_below, largest_none, thousand_below, thousand_above, admissible, share_above, share_below, share_part}
 
 -- ---- minutes
 
@@ -55,7 +55,7 @@ floored_above z = omega (arith, ints, clamps)
 pub floored_below : (a b : ℤ) → pos 0 ≤ℤ a → pos 0 ≤ℤ b → int_max (a -ℤ b) (pos 0) ≤ℤ a
 floored_below a b h k = omega (arith, ints, clamps)
 
-not_over : (b : Bool) (z : ℤ) → pos 0 ≤ℤ cond b (pos 0) (int_max z (pos 0))
+pub not_over : (b : Bool) (z : ℤ) → pos 0 ≤ℤ cond b (pos 0) (int_max z (pos 0))
 not_over true z = omega (arith, ints)
 not_over false z = floored_above z
 
@@ -63,12 +63,10 @@ pub size_of : (z : ℤ) → pos 0 ≤ℤ z → pos (nat_abs z) ≤ℤ z
 size_of z h = omega (arith, ints)
 
 pub everywhere : {X : Type 0} (P : X → Type 0) → ((x : X) → P x) → (xs : List X) → All P xs
-everywhere P h [] = tt
-everywhere P h (x ∷ xs) = (h x, everywhere P h xs)
+everywhere P h xs k d l = h _
 
 pub all_both : {X : Type 0} (P Q R : X → Type 0) → ((x : X) → P x → Q x → R x) → (xs : List X) → All P xs → All Q xs → All R xs
-all_both P Q R h [] p q = tt
-all_both P Q R h (x ∷ xs) p q = (h x p.0 q.0, all_both P Q R h xs p.1 q.1)
+all_both P Q R h xs p q k d l = h _ (p k d l) (q k d l)
 
 pub not_above : (z : ℤ) → lt_z (pos 0) z ≡ false → z ≤ℤ pos 0
 not_above z h = grind (arith, ints)
@@ -92,15 +90,11 @@ module _ (d : Day) (b : BoundedDay d) where
   unfolding over_response
   over_above e r = not_over (is_zero (held d e r)) (response d e r -ℤ held d e r)
 
-  -- what holds of every resource holds of an owner's
-  pub all_owned : (P : ℕ → Type 0) (m : ℕ) → ((r : ℕ) → r < length d.roll → P r) → All P (owned d m (resources d))
-  all_owned P m h = all_kept P (owns d m) (resources d) (all_counting P 0 (length d.roll) (λ r l. h r (omega arith)))
-
   few_owned : (m : ℕ) → length (owned d m (resources d)) ≤ 16
   few_owned m = let k = kept_length (owns d m) (resources d) in let n = length-range_with_len 0 (length d.roll) in let f = b.few_resources in omega arith
 
   shortfalls_above : (e : Event) (m : ℕ) → All (λ r. pos 0 ≤ℤ shortfall d e r) (owned d m (resources d))
-  shortfalls_above e m = all_owned (λ r. pos 0 ≤ℤ shortfall d e r) m (λ r l. shortfall_above e r)
+  shortfalls_above e m = all_owned d (λ r. pos 0 ≤ℤ shortfall d e r) m (λ r l. shortfall_above e r)
 
   pub net_above : (e : Event) (m : ℕ) → pos 0 ≤ℤ net_shortfall d e m
   unfolding net_shortfall
@@ -111,7 +105,7 @@ module _ (d : Day) (b : BoundedDay d) where
   net_below e m =
       floored_below (sum (owned d m (resources d)) (shortfall d e)) (sum (owned d m (resources d)) (over_response d e))
       (sum_above (owned d m (resources d)) (shortfall d e) (shortfalls_above e m))
-      (sum_above (owned d m (resources d)) (over_response d e) (all_owned (λ r. pos 0 ≤ℤ over_response d e r) m (λ r l. over_above e r)))
+      (sum_above (owned d m (resources d)) (over_response d e) (all_owned d (λ r. pos 0 ≤ℤ over_response d e r) m (λ r l. over_above e r)))
 
   pub shortfalls_accepted : (e : Event) (m : ℕ) → e.start ≤ 1439 → Allocable (net_shortfall d e m) (map (shortfall d e) (owned d m (resources d)))
   shortfalls_accepted e m s = elim (zero_or_above (net_shortfall d e m) (net_above e m)) [
@@ -121,22 +115,22 @@ module _ (d : Day) (b : BoundedDay d) where
         let n = length-map (owned d m (resources d)) (shortfall d e) in
         let low = net_below e m in
         let most : sum (owned d m (resources d)) (shortfall d e) ≤ℤ pos 8000000 =
-        let i = sum_below (owned d m (resources d)) (shortfall d e) 500000 (all_owned (λ r. shortfall d e r ≤ℤ pos 500000) m (λ r l. shortfall_small e r s l)) in omega (arith, ints) in
+        let i = sum_below (owned d m (resources d)) (shortfall d e) 500000 (all_owned d (λ r. shortfall d e r ≤ℤ pos 500000) m (λ r l. shortfall_small e r s l)) in omega (arith, ints) in
         let size = magnitude_le (owned d m (resources d)) (shortfall d e) (shortfall d e) (All-weaker (λ r. pos 0 ≤ℤ shortfall d e r) (λ r. pos (nat_abs (shortfall d e r)) ≤ℤ shortfall d e r) (λ r l. size_of _ l) (owned d m (resources d)) (shortfalls_above e m)) in
         inr (admissible (net_shortfall d e m) (map (shortfall d e) (owned d m (resources d))) 8000000 8000000 (omega arith) (net_above e m) (omega (arith, ints)) (omega (arith, ints)) (lit≤ tt) (lit≤ tt) (omega (arith, ints)))
   ]
 
   counted_starts : All (λ e. e.start ≤ 1439) (counted d)
   unfolding counted
-  counted_starts = all_kept (λ e. e.start ≤ 1439) counts d.closed b.starts
+  counted_starts = All-filter counts (λ e. e.start ≤ 1439) d.closed b.starts
 
   counted_ends : All (λ e. e.end ≤ 1440) (counted d)
   unfolding counted
-  counted_ends = all_kept (λ e. e.end ≤ 1440) counts d.closed b.ends
+  counted_ends = All-filter counts (λ e. e.end ≤ 1440) d.closed b.ends
 
   counted_counts : All (λ e. counts e ≡ true) (counted d)
   unfolding counted
-  counted_counts = kept_passes counts d.closed
+  counted_counts = filter_passes counts d.closed
 
   few_counted : length (counted d) ≤ 4
   unfolding counted

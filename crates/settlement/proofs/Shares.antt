@@ -15,9 +15,9 @@ at_zeros [] k = refl
 at_zeros (w ∷ ws) zero = refl
 at_zeros (w ∷ ws) (suc k) = at_zeros ws k
 
-nothing : (t : Meaning) (a : ℤ) (ws : List ℤ) → a ≡ pos 0 → allocated t a ws ≡ map (λ _. pos 0) ws
+pub zero_allocated : (t : Meaning) (a : ℤ) (ws : List ℤ) → a ≡ pos 0 → allocated t a ws ≡ map (λ _. pos 0) ws
 unfolding allocated
-nothing t a ws e = rw e refl
+zero_allocated t a ws e = rw e refl
 
 something : (t : Meaning) (a : ℤ) (ws : List ℤ) → is_zero a ≡ false → allocated t a ws ≡ t a ws
 unfolding allocated
@@ -31,8 +31,8 @@ zero_or_not (negsuc n) = inr (grind (arith, nat_tests))
 -- either all are zero, or they are the rule's
 pub cases : (t : Meaning) (a : ℤ) (ws : List ℤ) → Allocable a ws
     → ((a ≡ pos 0) × (allocated t a ws ≡ map (λ _. pos 0) ws)) ⊎ (Admissible a ws × (allocated t a ws ≡ t a ws))
-cases t a ws (inl e) = inl (e, nothing t a ws e)
-cases t a ws (inr s) = elim (zero_or_not a) [ inl e ↦ inl (e, nothing t a ws e) | inr e ↦ inr (s, something t a ws e) ]
+cases t a ws (inl e) = inl (e, zero_allocated t a ws e)
+cases t a ws (inr s) = elim (zero_or_not a) [ inl e ↦ inl (e, zero_allocated t a ws e) | inr e ↦ inr (s, something t a ws e) ]
 
 pub allocated_total : (t : Meaning) (a : ℤ) (ws : List ℤ) → Lawful t → Allocable a ws → total (allocated t a ws) ≡ a
 allocated_total t a ws l h = elim (cases t a ws h) [

@@ -1,12 +1,11 @@
 -- Steps of the loops.
-use Rattle.std.proofs.Common.{◌≡◌, ℕ, ◌+◌, ◌<◌, ◌≤◌, Bool, true, false, cond, List, [], ◌∷◌, ◌++◌, map, length, get_or, take, set, replicate, ℤ, pos, ◌+ℤ◌, nat_abs, ◌≤ℤ◌, Ok, Err, filter, Result, sym, refl, ap, ◌∙◌, inl, inr, arith}
-use Rattle.std.specs.List.{AllByRecursion as All, range_with_len}
-use Rattle.settlement.proofs.Sums.{sum_kept, sum_all, all_counting}
-use Rattle.settlement.specs.Days.{Day, resources, owns, owned}
-use Rattle.settlement.proofs.Bounds.{all_kept}
-use Rattle.std.proofs.lemmas.List.Edits.{fill_by_more}
-use Rattle.std.proofs.lemmas.List.{map-id, append-nil, length_push, take_more_set, map_push}
-use Rattle.std.proofs.lemmas.List.Elements.{filter-append}
+use Rattle.std.proofs.Common.{◌≡◌, ℕ, ◌+◌, ◌<◌, ◌≤◌, Bool, true, false, cond, List, [], ◌∷◌, ◌++◌, map, length, replicate, ℤ, pos, ◌+ℤ◌, nat_abs, ◌≤ℤ◌, Ok, Err, filter, Result, sym, refl, ap, ◌∙◌, inl, inr, arith}
+use Rattle.std.specs.List.{All, range_with_len}
+use Rattle.settlement.proofs.Sums.{sum_kept, sum_all}
+use Rattle.settlement.specs.Days.{Day, resources, owned}
+use Rattle.settlement.proofs.Bounds.{all_owned}
+use Rattle.std.proofs.lemmas.List.{map-id, append-nil}
+use Rattle.std.proofs.lemmas.List.Elements.{All-head, All-tail, filter-append}
 use Rattle.std.proofs.lemmas.Int.{ints}
 use Rattle.std.proofs.lemmas.List.FromFn.{map-range_with_len_more}
 use Rattle.allocation.specs.Weights.{total}
@@ -37,10 +36,6 @@ allocated_fixed a ws n r before after fixed s e h = by (verdict a ws n) (ap (ver
     by (Ok w) q h = h.1
     by (Err y) q h = let z : ◌≡◌ {A = ℕ} 0 1 = cc in absurd (omega arith)
 
-pub zero_allocated : (t : Meaning) (a : ℤ) (ws : List ℤ) → a ≡ pos 0 → allocated t a ws ≡ map (λ _. pos 0) ws
-unfolding allocated
-zero_allocated t a ws e = rw e refl
-
 pub some_allocated : (t : Meaning) (a : ℤ) (ws : List ℤ) → (a ≡ pos 0 → ⊥) → Allocable a ws → Admissible a ws × (allocated t a ws ≡ t a ws)
 some_allocated t a ws n h = elim (cases t a ws h) [ inl p ↦ absurd (n p.0) | inr p ↦ p ]
 
@@ -62,33 +57,22 @@ kept_yes p n e = kept_more p n ∙ ap (λ (b : Bool). filter p (range_with_len 0
 pub kept_no : (p : ℕ → Bool) (n : ℕ) → p n ≡ false → filter p (range_with_len 0 (n + 1)) ≡ filter p (range_with_len 0 n)
 kept_no p n e = kept_more p n ∙ ap (λ (b : Bool). filter p (range_with_len 0 n) ++ cond b (n ∷ []) []) e ∙ append-nil (filter p (range_with_len 0 n))
 
--- one figure more is gathered
-pub gather_yes : (p : ℕ → Bool) (f : ℕ → ℤ) (out : List ℤ) (n k : ℕ) → p n ≡ true → k ≡ length (filter p (range_with_len 0 n)) → k < length out → take k out ≡ map f (filter p (range_with_len 0 n))
-    → (k + 1 ≡ length (filter p (range_with_len 0 (n + 1)))) × (take (k + 1) (set out k (f n)) ≡ map f (filter p (range_with_len 0 (n + 1))))
-gather_yes p f out n k e l h i =
-    let m = kept_yes p n e in
-    (rw m (simp length_push (omega arith)), take_more_set out k (f n) h ∙ ap (λ (xs : List ℤ). xs ++ f n ∷ []) i ∙ sym (map_push f (filter p (range_with_len 0 n)) n) ∙ sym (ap (map f) m))
-
 -- figures that agree on every resource agree on an owner's
 pub own_same : (d : Day) (m : ℕ) (f g : ℕ → ℤ) → ((r : ℕ) → r < length d.roll → f r ≡ g r) → sum (owned d m (resources d)) f ≡ sum (owned d m (resources d)) g
-own_same d m f g h = sum_all (owned d m (resources d)) f g (all_kept (λ r. f r ≡ g r) (owns d m) (resources d) (all_counting (λ r. f r ≡ g r) 0 (length d.roll) (λ r l. h r (omega arith))))
+own_same d m f g h = sum_all (owned d m (resources d)) f g (all_owned d (λ r. f r ≡ g r) m h)
 
-pub own_map_same : (d : Day) (m n : ℕ) (f g : ℕ → ℤ) → n ≤ length d.roll → ((r : ℕ) → r < length d.roll → f r ≡ g r) → map f (owned d m (range_with_len 0 n)) ≡ map g (owned d m (range_with_len 0 n))
-own_map_same d m n f g l h = by (owned d m (range_with_len 0 n)) (all_kept (λ r. f r ≡ g r) (owns d m) (range_with_len 0 n) (all_counting (λ r. f r ≡ g r) 0 n (λ r i. h r (omega arith))))
+pub own_map_same : (d : Day) (m : ℕ) (f g : ℕ → ℤ) → ((r : ℕ) → r < length d.roll → f r ≡ g r) → map f (owned d m (resources d)) ≡ map g (owned d m (resources d))
+own_map_same d m f g h = by (owned d m (resources d)) (all_owned d (λ r. f r ≡ g r) m h)
   where
     by : (rs : List ℕ) → All (λ r. f r ≡ g r) rs → map f rs ≡ map g rs
     by [] k = refl
-    by (r ∷ rs) k = let e = k.0 in let i = by rs k.1 in cc
+    by (r ∷ rs) k = let e = All-head (λ r. f r ≡ g r) r rs k in let i = by rs (All-tail (λ r. f r ≡ g r) r rs k) in cc
 
 pub small_at : (v w : ℤ) (n : ℕ) → v ≡ w → pos 0 ≤ℤ w → w ≤ℤ pos n → n ≤ 1000000000000 → nat_abs v ≤ 1000000000000
 small_at v w n e h k l = omega (arith, ints)
 
 pub allocated_at : (t : Meaning) (a a' : ℤ) (ws ws' xs : List ℤ) → xs ≡ allocated t a ws → a ≡ a' → ws ≡ ws' → xs ≡ allocated t a' ws'
 allocated_at t a a' ws ws' xs h e f = h ∙ ap (λ (z : ℤ). allocated t z ws) e ∙ ap (allocated t a') f
-
--- a loop that writes f k at each place k: its step, with what is written in the code's words
-pub written : (f : ℕ → ℤ) (xs : List ℤ) (i : ℕ) (v : ℤ) → i < length xs → v ≡ f i → ((k : ℕ) → k < i → get_or xs k (pos 0) ≡ f k) → (k : ℕ) → k < i + 1 → get_or (set xs i v) k (pos 0) ≡ f k
-written f xs i v l e h = rw e (fill_by_more f xs i (pos 0) l h)
 
 pub accepted_at : (a a' : ℤ) (ws ws' : List ℤ) → a ≡ a' → ws ≡ ws' → Allocable a' ws' → Allocable a ws
 accepted_at a a' ws ws' e f h = rw (e, f) h

@@ -2,9 +2,10 @@
 use Rattle.std.proofs.Common.{◌≡◌, ℕ, zero, suc, ◌+◌, ◌*◌, ◌<◌, ◌≤◌, Bool, true, false, cond, eqb, List, [], ◌∷◌, length, ℤ, pos, ◌+ℤ◌, ◌-ℤ◌, ◌*ℤ◌, ◌≤ℤ◌, filter, sym, refl, ap, ◌∙◌, arith}
 use lib.IntN.{*ℤ-zero}
 use Rattle.allocation.specs.Products.{times_sum}
-use Rattle.std.specs.List.{range_with_len, AllByRecursion as All}
+use Rattle.std.specs.List.{range_with_len, All}
 use Rattle.std.proofs.lemmas.Int.{ints}
 use Rattle.std.proofs.lemmas.Bool.Decides.{nat_tests}
+use Rattle.std.proofs.lemmas.List.Elements.{All-nil, All-cons, All-head, All-tail}
 use Rattle.std.proofs.lemmas.List.FromFn.{fill_by_all}
 use Rattle.allocation.specs.Weights.{total}
 use Rattle.settlement.specs.Sums.{sum, at}
@@ -58,7 +59,7 @@ sum_pick o a (suc n) v l h = by (eqb o a) refl (λ le. sum_pick o (a + 1) n v le
 
 pub sum_all : {X : Type 0} (xs : List X) (f g : X → ℤ) → All (λ x. f x ≡ g x) xs → sum xs f ≡ sum xs g
 sum_all [] f g h = refl
-sum_all (x ∷ xs) f g h = let i = sum_all xs f g h.1 in let e = h.0 in omega (arith, ints)
+sum_all (x ∷ xs) f g h = let i = sum_all xs f g (All-tail (λ x. f x ≡ g x) x xs h) in let e = All-head (λ x. f x ≡ g x) x xs h in omega (arith, ints)
 
 -- each member's own, over all members
 pub sum_owned : (n : ℕ) (owner : ℕ → ℕ) (rs : List ℕ) (f : ℕ → ℤ) → All (λ r. owner r < n) rs
@@ -71,8 +72,8 @@ sum_owned n owner rs f h =
     each : (rs : List ℕ) → All (λ r. owner r < n) rs → sum rs (λ r. sum (range_with_len 0 n) (λ m. cond (eqb (owner r) m) (f r) (pos 0))) ≡ sum rs f
     each [] h = refl
     each (r ∷ rs) h =
-        let i = each rs h.1 in
-        let l = h.0 in
+        let i = each rs (All-tail (λ r. owner r < n) r rs h) in
+        let l = All-head (λ r. owner r < n) r rs h in
         let p = sum_pick (owner r) 0 n (f r) (omega arith) (omega arith) in
         omega (arith, ints)
 
@@ -81,27 +82,27 @@ pub sum_at : (xs : List ℤ) (n : ℕ) → length xs ≡ n → sum (range_with_l
 sum_at xs n e = sym (ap total (fill_by_all (at xs) xs n (pos 0) e (λ k l. refl)))
 
 pub all_counting : (P : ℕ → Type 0) (a n : ℕ) → ((r : ℕ) → r < a + n → P r) → All P (range_with_len a n)
-all_counting P a zero h = tt
-all_counting P a (suc n) h = (h a (omega arith), all_counting P (a + 1) n (λ r l. h r (omega arith)))
+all_counting P a zero h = All-nil P
+all_counting P a (suc n) h = All-cons P a (range_with_len (a + 1) n) (h a (omega arith)) (all_counting P (a + 1) n (λ r l. h r (omega arith)))
 
 pub sum_le : {X : Type 0} (xs : List X) (f g : X → ℤ) → All (λ x. f x ≤ℤ g x) xs → sum xs f ≤ℤ sum xs g
 sum_le [] f g h = omega (arith, ints)
-sum_le (x ∷ xs) f g h = let i = sum_le xs f g h.1 in let e = h.0 in omega (arith, ints)
+sum_le (x ∷ xs) f g h = let i = sum_le xs f g (All-tail (λ x. f x ≤ℤ g x) x xs h) in let e = All-head (λ x. f x ≤ℤ g x) x xs h in omega (arith, ints)
 
 pub sum_above : {X : Type 0} (xs : List X) (f : X → ℤ) → All (λ x. pos 0 ≤ℤ f x) xs → pos 0 ≤ℤ sum xs f
 sum_above [] f h = omega (arith, ints)
-sum_above (x ∷ xs) f h = let i = sum_above xs f h.1 in let e = h.0 in omega (arith, ints)
+sum_above (x ∷ xs) f h = let i = sum_above xs f (All-tail (λ x. pos 0 ≤ℤ f x) x xs h) in let e = All-head (λ x. pos 0 ≤ℤ f x) x xs h in omega (arith, ints)
 
 pub sum_below : {X : Type 0} (xs : List X) (f : X → ℤ) (b : ℕ) → All (λ x. f x ≤ℤ pos b) xs → sum xs f ≤ℤ pos (length xs * b)
 sum_below [] f b h = omega (arith, ints)
-sum_below (x ∷ xs) f b h = let i = sum_below xs f b h.1 in let e = h.0 in omega (arith, ints)
+sum_below (x ∷ xs) f b h = let i = sum_below xs f b (All-tail (λ x. f x ≤ℤ pos b) x xs h) in let e = All-head (λ x. f x ≤ℤ pos b) x xs h in omega (arith, ints)
 
 -- each at most c times another
 pub sum_scaled : {X : Type 0} (c : ℕ) (xs : List X) (f g : X → ℤ) → All (λ x. f x ≤ℤ (pos c *ℤ g x)) xs → sum xs f ≤ℤ (pos c *ℤ sum xs g)
 sum_scaled c [] f g h = let z = *ℤ-zero (pos c) in omega (arith, ints)
 sum_scaled c (x ∷ xs) f g h =
-    let i = sum_scaled c xs f g h.1 in
-    rw (times_sum (pos c) (g x) (sum xs g)) (added (f x) (pos c *ℤ g x) (sum xs f) (pos c *ℤ sum xs g) h.0 i)
+    let i = sum_scaled c xs f g (All-tail (λ x. f x ≤ℤ (pos c *ℤ g x)) x xs h) in
+    rw (times_sum (pos c) (g x) (sum xs g)) (added (f x) (pos c *ℤ g x) (sum xs f) (pos c *ℤ sum xs g) (All-head (λ x. f x ≤ℤ (pos c *ℤ g x)) x xs h) i)
   where
     added : (a b u v : ℤ) → a ≤ℤ b → u ≤ℤ v → (a +ℤ u) ≤ℤ (b +ℤ v)
     added a b u v h k = omega (arith, ints)

@@ -1,6 +1,7 @@
 -- The trades of an hour by their keys.
 use Rattle.std.proofs.Common.{◌≡◌, ℕ, zero, suc, ◌+◌, ◌*◌, ◌<◌, ◌≤◌, Bool, true, false, cond, ◌&&◌, eqb, List, [], ◌∷◌, length, ℤ, pos, ◌+ℤ◌, ◌≤ℤ◌, sum_by, refl, ap, ◌∙◌, arith}
-use Rattle.std.specs.List.{range_with_len, AllByRecursion as All}
+use Rattle.std.specs.List.{range_with_len, All}
+use Rattle.std.proofs.lemmas.List.Elements.{All-head, All-tail}
 use Rattle.std.proofs.lemmas.Int.{ints}
 use Rattle.std.proofs.lemmas.Bool.Decides.{nat_tests}
 use Rattle.std.proofs.lemmas.List.Sums.{sum_by-cons}
@@ -61,8 +62,8 @@ all_under : (k n : ℕ) (ts : List Trade) → All (λ t. t.kwh ≤ 500000) ts
 all_under k n [] h = let z = ap (sum (range_with_len 0 n)) (λ i (seller : ℕ). sum_zero (range_with_len 0 n) i) ∙ sum_zero (range_with_len 0 n) in omega (arith, ints)
 all_under k n (t ∷ ts) h =
     let one = one_under k n t in
-    let more = all_under k n ts h.1 in
-    let q = h.0 in
+    let more = all_under k n ts (All-tail (λ t. t.kwh ≤ 500000) t ts h) in
+    let q = All-head (λ t. t.kwh ≤ 500000) t ts h in
     let split : sum (range_with_len 0 n) (λ seller. sum (range_with_len 0 n) (λ buyer. pos (sold_in (t ∷ ts) k seller buyer)))
     ≡ sum (range_with_len 0 n) (λ seller. sum (range_with_len 0 n) (λ buyer. pos (cond (under k seller buyer t) t.kwh 0))) +ℤ sum (range_with_len 0 n) (λ seller. sum (range_with_len 0 n) (λ buyer. pos (sold_in ts k seller buyer)))
     = ap (sum (range_with_len 0 n)) (λ i (seller : ℕ). (ap (sum (range_with_len 0 n)) (λ j (buyer : ℕ). pos (sum_by-cons (λ t. cond (under k seller buyer t) t.kwh 0) t ts j))
@@ -116,8 +117,8 @@ sales_by_trades n k m (t ∷ ts) h =
     added _ _ _ (sells k m t) (sum_by (sells k m) ts) _
     (ap (sum (range_with_len 0 n)) (λ i other. pos (sum_by-cons (λ t. cond (under k m other t) t.kwh 0) t ts i))
     ∙ sum_plus (range_with_len 0 n) (λ other. pos (cond (under k m other t) t.kwh 0)) (λ other. pos (sold_in ts k m other)))
-    (one_sale n (eqb t.key.hour k) (eqb t.key.seller m) t.key.buyer t.kwh h.0)
-    (sales_by_trades n k m ts h.1)
+    (one_sale n (eqb t.key.hour k) (eqb t.key.seller m) t.key.buyer t.kwh (All-head (λ t. t.key.buyer < n) t ts h))
+    (sales_by_trades n k m ts (All-tail (λ t. t.key.buyer < n) t ts h))
     (sum_by-cons (sells k m) t ts)
 
 pub purchases_by_trades : (n k m : ℕ) (ts : List Trade) → All (λ t. t.key.seller < n) ts → sum (range_with_len 0 n) (λ other. pos (sold_in ts k other m)) ≡ pos (sum_by (buys k m) ts)
@@ -126,6 +127,6 @@ purchases_by_trades n k m (t ∷ ts) h =
     added _ _ _ (buys k m t) (sum_by (buys k m) ts) _
     (ap (sum (range_with_len 0 n)) (λ i other. pos (sum_by-cons (λ t. cond (under k other m t) t.kwh 0) t ts i))
     ∙ sum_plus (range_with_len 0 n) (λ other. pos (cond (under k other m t) t.kwh 0)) (λ other. pos (sold_in ts k other m)))
-    (one_purchase n (eqb t.key.hour k) (eqb t.key.buyer m) t.key.seller t.kwh h.0)
-    (purchases_by_trades n k m ts h.1)
+    (one_purchase n (eqb t.key.hour k) (eqb t.key.buyer m) t.key.seller t.kwh (All-head (λ t. t.key.seller < n) t ts h))
+    (purchases_by_trades n k m ts (All-tail (λ t. t.key.seller < n) t ts h))
     (sum_by-cons (buys k m) t ts)

@@ -1,6 +1,5 @@
 -- What a settled hour owes under every rule: the bounds of the inputs, and the laws of an hour.
-use Rattle.std.specs.Prelude.{◌≡◌, ℕ, ◌<◌, ◌≤◌, false, ◌⊎◌, List, map, length, ℤ, pos, ◌+ℤ◌, ◌-ℤ◌, ◌*ℤ◌, ◌≤ℤ◌, ◌<ℤ◌, unsigned_abs}
-use Rattle.std.specs.List.{AllByRecursion}
+use Rattle.std.specs.Prelude.{◌≡◌, ℕ, ◌<◌, ◌≤◌, false, ◌⊎◌, All, List, map, length, ℤ, pos, ◌+ℤ◌, ◌-ℤ◌, ◌*ℤ◌, ◌≤ℤ◌, ◌<ℤ◌, unsigned_abs}
 use Rattle.allocation.specs.Weights.{total}
 use Rattle.allocation.specs.Refusals.{Admissible}
 use Rattle.allocation.specs.Rules.{EachRounded}
@@ -24,7 +23,7 @@ Allocable amount weights = (amount ≡ pos 0) ⊎ Admissible amount weights
 
 -- no allocation of the hour is refused
 pub record NoneRefused (t : Meaning) (d : Day) (k : ℕ) (x : Hour) (q : Sales) : Type 0 where
-  pub shortfalls : (m : ℕ) → AllByRecursion (λ e. Allocable (net_shortfall d e m) (map (shortfall d e) (owned d m (resources d)))) (counted d)
+  pub shortfalls : (m : ℕ) → All (λ e. Allocable (net_shortfall d e m) (map (shortfall d e) (owned d m (resources d)))) (counted d)
   pub day_refunds : (r : ℕ) → r < length d.roll → Allocable (day_refund t d r) (map (refund_minutes d r) hours)
   pub reserve : Allocable (total_assigned d k) (map (load x) (members d))
   pub clearing : Allocable (total_clearing d k x) (adjusted_obligations t d k x q)
@@ -54,8 +53,8 @@ pub record BoundedDay (d : Day) : Type 0 where
   pub price_sums : (r : ℕ) → r < length d.roll → (resource d r).interval_price_sum ≤ 4000000
   pub assignments : (h r : ℕ) → h < 24 → r < length d.roll → Small (assignment d h r)
   pub few_events : length d.closed ≤ 4
-  pub starts : AllByRecursion (λ e. e.start ≤ 1439) d.closed
-  pub ends : AllByRecursion (λ e. e.end ≤ 1440) d.closed
+  pub starts : All (λ e. e.start ≤ 1439) d.closed
+  pub ends : All (λ e. e.end ≤ 1440) d.closed
 
 -- and of the hour
 pub record Bounded (d : Day) (k : ℕ) (x : Hour) (q : Sales) : Type 0 where

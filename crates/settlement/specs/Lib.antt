@@ -3,3 +3,4 @@ pub mod Days
 pub mod Shortfalls
 pub mod Settlement
 pub mod Laws
+pub mod Figures

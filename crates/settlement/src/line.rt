@@ -13,3 +13,17 @@ pub struct Line {
     pub opportunity_cost_credit: i64,
     pub refund_paid: i64,
 }
+
+impl Line {
+    // The line of whoever takes no part.
+    pub const ZERO: Line = Line {
+        obligation: 0,
+        adjusted_obligation: 0,
+        clearing_charge: 0,
+        opportunity_cost_charge: 0,
+        refund_charged: 0,
+        clearing_credit: 0,
+        opportunity_cost_credit: 0,
+        refund_paid: 0,
+    };
+}

@@ -1,6 +1,7 @@
 -- How many trades stand.
 use Rattle.std.proofs.Common.{◌≡◌, ℕ, ◌+◌, ◌≤◌, Bool, true, cond, ◌&&◌, ltb, List, [], ◌∷◌, map, length, sum_by, count_by, refl, ap, ◌∙◌, inl, inr, arith}
-use Rattle.std.specs.List.{range_with_len, flat_map, AllByRecursion as All}
+use Rattle.std.specs.List.{range_with_len, flat_map, AllPass}
+use Rattle.std.proofs.lemmas.List.Elements.{All-head, All-tail}
 use Rattle.std.proofs.lemmas.List.Sums.{sum_by-cons}
 use Rattle.std.proofs.lemmas.Bool.{cases_Bool, and_parts}
 use Rattle.std.proofs.lemmas.Bool.Decides.{nat_tests}
@@ -51,12 +52,13 @@ one_more t ts k apart s =
 
 -- among keys that hold each key in range once, as many have a quantity as trades stand
 module _ (ks : List TradeKey) (each : (k : TradeKey) → in_range k ≡ true → count_by (same_key k) ks ≡ 1) where
-  counted : (ts : List Trade) → Apart (λ t k. same_key t.key k) ts → All (λ t. sound t ≡ true) ts → count_by (λ k. ltb 0 (quantity_at ts k)) ks ≡ length ts
+  counted : (ts : List Trade) → Apart (λ t k. same_key t.key k) ts → AllPass sound ts → count_by (λ k. ltb 0 (quantity_at ts k)) ks ≡ length ts
   counted [] apart s = omega (arith, sum_split {X = TradeKey} (λ _. 0) (λ _. 0) (λ _. 0) (λ _. refl) ks)
   counted (t ∷ ts) apart s =
-      let more = sum_split (λ k. one (ltb 0 (quantity_at (t ∷ ts) k))) (λ k. one (same_key t.key k)) (λ k. one (ltb 0 (quantity_at ts k))) (λ k. one_more t ts k (apart k) s.0) ks in
-      let first = each t.key (and_parts (in_range t.key) _ s.0).0 in
-      let rest = counted ts (λ k. omega (arith, apart k, sum_by-cons (λ t. one (same_key t.key k)) t ts)) s.1 in
+      let e = All-head (λ t. sound t ≡ true) t ts s in
+      let more = sum_split (λ k. one (ltb 0 (quantity_at (t ∷ ts) k))) (λ k. one (same_key t.key k)) (λ k. one (ltb 0 (quantity_at ts k))) (λ k. one_more t ts k (apart k) e) ks in
+      let first = each t.key (and_parts (in_range t.key) _ e).0 in
+      let rest = counted ts (λ k. omega (arith, apart k, sum_by-cons (λ t. one (same_key t.key k)) t ts)) (All-tail (λ t. sound t ≡ true) t ts s) in
       omega arith
 
 -- the keys with a quantity are as many as the trades

@@ -2,4 +2,4 @@ pub mod Sums
 mod Counts
 mod Moves
 mod Wholes
-pub mod Totals
+pub mod Soundness

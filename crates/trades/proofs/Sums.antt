@@ -1,8 +1,8 @@
 -- Sums over lists of any elements.
 use Rattle.std.proofs.Common.{◌≡◌, ℕ, zero, suc, ◌+◌, ◌<◌, ◌≤◌, Bool, true, cond, not, ltb, List, [], ◌∷◌, map, length, get_or, take, drop, sum_by, count_by, sym, refl, ap, ◌∙◌, inl, inr, zero-add, add-one, arith}
-use Rattle.std.specs.List.{range_with_len, flat_map, AllByRecursion as All}
+use Rattle.std.specs.List.{range_with_len, flat_map, AllPass}
 use Rattle.std.proofs.lemmas.List.FromFn.{sum_by-map-range_with_len_more}
-use Rattle.std.proofs.lemmas.List.Sums.{sum_by-cons, sum_by-append, sum_by-take-drop, sum_by-drop_more}
+use Rattle.std.proofs.lemmas.List.Sums.{sum_by-cons, sum_by-append, sum_by-take-drop, sum_by-drop_more, get_or-le-sum_by}
 use Rattle.std.proofs.lemmas.Bool.{lt-ltb, cases_eq, cond-true}
 use Rattle.std.proofs.lemmas.Bool.Decides.{nat_tests}
 
@@ -33,11 +33,8 @@ pub only_joined : {A : Type 0} (f : A → ℕ) (g : ℕ → List A) (i n : ℕ) 
 only_joined f g i n e l = sum_joined f g (range_with_len 0 n) ∙ only_at (sum_by f) g i n e l
 
 -- where no element fails a test, all pass it
-pub all_pass : {X : Type 0} (p : X → Bool) (xs : List X) → count_by (λ x. not (p x)) xs ≡ 0 → All (λ x. p x ≡ true) xs
-all_pass p [] h = tt
-all_pass p (x ∷ xs) h =
-    let c = sum_by-cons (λ y. cond (not (p y)) 1 0) x xs in
-    (grind arith, all_pass p xs (omega arith))
+pub all_pass : {X : Type 0} (p : X → Bool) (xs : List X) → count_by (λ x. not (p x)) xs ≡ 0 → AllPass p xs
+all_pass p xs h k d l = let c = get_or-le-sum_by (λ x. cond (not (p x)) 1 0) xs k d l in grind arith
 
 -- a sum over no elements
 pub none_sum : {X : Type 0} (p : X → Bool) (g : X → ℕ) (xs : List X) → count_by p xs ≡ 0 → sum_by (λ x. cond (p x) (g x) 0) xs ≡ 0

@@ -1,6 +1,5 @@
 // The standing trades of the day.
-ghost use Rattle.std.specs.Prelude.{◌≡◌};
-ghost use Rattle.rolls.specs.Items.{items};
+ghost use Rattle.std.specs.Prelude.{◌≡◌, ◌≤◌, length};
 ghost use Rattle.rolls.specs.Places.{Apart};
 ghost use Rattle.trades.specs.Keys.{same_key};
 ghost use Rattle.trades.specs.Trades.{unsound};
@@ -15,6 +14,7 @@ pub mod edits;
 #[derive(Drop)]
 pub struct Trades {
     places: Roll<Trade, MAX_TRADES>,
-    ghost apart: { Apart (λ t k. same_key t.key k) (items places) },
-    ghost sound: { unsound (items places) ≡ 0 },
+    ghost few: { length places ≤ 64 },
+    ghost apart: { Apart (λ t k. same_key t.key k) places },
+    ghost sound: { unsound places ≡ 0 },
 }

@@ -4,7 +4,7 @@ ghost use Rattle.trades.specs.Keys.{same_key};
 use rolls::find::Keyed;
 
 // The hour's place, and the places of the seller and the buyer among the members.
-#[derive(Clone, Copy)]
+#[derive(Clone, Copy, PartialEq, Eq, Debug)]
 pub struct TradeKey {
     pub hour: usize,
     pub seller: usize,
@@ -23,6 +23,6 @@ impl Keyed for Trade {
     ghost matches = { λ t k. same_key t.key k };
 
     fn has_key(&self, key: &TradeKey) -> bool {
-        self.key.hour == key.hour && self.key.seller == key.seller && self.key.buyer == key.buyer
+        self.key == *key
     }
 }

@@ -1,6 +1,5 @@
 // What can be done with the standing trades.
 ghost use Rattle.std.specs.Prelude.{◌≡◌, ◌≤◌, true, false, length, MatchResult};
-ghost use Rattle.rolls.specs.Items.{items};
 ghost use Rattle.trades.specs.Keys.{in_range};
 ghost use Rattle.trades.specs.Trades.{no_trades, quantity_at, with_quantity, standing, no_place};
 
@@ -13,8 +12,9 @@ use rolls::roll::Roll;
 pub struct NoPlace;
 
 impl Trades {
+    // No trade stands.
     pub fn none() -> Trades
-        ensures { quantity_at (items result.places) ≡ no_trades }
+        ensures { quantity_at result.places ≡ no_trades }
     {
         let key = TradeKey {
             hour: 0,
@@ -28,7 +28,7 @@ impl Trades {
 
     // The kWh under a key, 0 where no trade stands.
     pub fn quantity(&self, key: TradeKey) -> u32
-        ensures { result ≡ quantity_at (items self.now.places) key }
+        ensures { result ≡ quantity_at self.now.places key }
     {
         let Some(place) = self.places.place_of(&key) else {
             return 0;
@@ -38,7 +38,7 @@ impl Trades {
 
     // The trades that stand; their order has no meaning.
     pub fn as_slice(&self) -> &[Trade]
-        ensures value { result.now ≡ items self.now.places }
+        ensures value { result.now ≡ self.now.places }
         ensures few { length result.now ≤ 64 }
     {
         self.places.as_slice()
@@ -46,7 +46,7 @@ impl Trades {
 
     // How many trades stand.
     pub fn count(&self) -> usize
-        ensures { result ≡ standing (quantity_at (items self.now.places)) }
+        ensures { result ≡ standing (quantity_at self.now.places) }
     {
         self.places.len()
     }
@@ -56,16 +56,16 @@ impl Trades {
         requires ranged { in_range key ≡ true }
         requires limited { kwh ≤ 500000 }
         ensures { MatchResult result
-            (λ _. (no_place (quantity_at (items self.old.places)) key kwh ≡ false)
-            × (quantity_at (items self.new.places) ≡ with_quantity (quantity_at (items self.old.places)) key kwh))
-            (λ _. (no_place (quantity_at (items self.old.places)) key kwh ≡ true) × (self.new ≡ self.old)) }
+            (λ _. (no_place (quantity_at self.old.places) key kwh ≡ false)
+            × (quantity_at self.new.places ≡ with_quantity (quantity_at self.old.places) key kwh))
+            (λ _. (no_place (quantity_at self.old.places) key kwh ≡ true) × (self.new ≡ self.old)) }
     {
         match (self.places.place_of(&key), kwh > 0) {
             (None, false) => Ok(()),
-            (None, true) => match self.places.push(Trade { key, kwh }) {
-                Some(_) => Ok(()),
-                None => Err(NoPlace),
-            },
+            (None, true) => {
+                self.places.push(Trade { key, kwh }).ok_or(NoPlace)?;
+                Ok(())
+            }
             (Some(place), false) => {
                 self.places.remove(place);
                 Ok(())

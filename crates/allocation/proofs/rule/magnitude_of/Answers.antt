@@ -1,16 +1,12 @@
-use Rattle.std.proofs.Common.{◌≡◌, ◌+◌, ◌<◌, length, get_or, drop, pos, nat_abs, arith}
-use Rattle.std.proofs.lemmas.Int.{ints}
-use Rattle.std.proofs.lemmas.List.{at_drop_more, at_drop_all}
+use Rattle.std.proofs.Common.{◌≡◌, List, [], ◌∷◌, ℤ, unsigned_abs, refl, ◌∙◌, arith, rules}
+use Rattle.std.specs.List.{sum_by}
+use Rattle.std.proofs.lemmas.List.Sums.{sum_by-cons}
 use Rattle.allocation.specs.Weights.{magnitude}
 use Rattle.allocation.proofs.rule.magnitude_of.Goals as goal
 
-pub loop-w-preserved : goal.loop-w-preserved
-loop-w-preserved c =
-    let xs = c.args.weights.now in
-    let i = c.loop-w.w-index in
-    let lt : i < length xs = omega arith in
-    let e : magnitude (drop i xs) ≡ nat_abs (get_or xs i (pos 0)) + magnitude (drop (i + 1) xs) = at_drop_more magnitude xs i (pos 0) lt in
-    (omega arith, omega (arith, ints))
+sum_by-unsigned_abs : (xs : List ℤ) → sum_by unsigned_abs xs ≡ magnitude xs
+sum_by-unsigned_abs [] = refl
+sum_by-unsigned_abs (x ∷ xs) = let e = sum_by-unsigned_abs xs in omega (arith, sum_by-cons unsigned_abs x xs)
 
 pub returns : goal.returns
-returns c = let e : magnitude (drop c.loop-w.w-index c.args.weights.now) ≡ 0 = at_drop_all magnitude _ _ c.loop-w-test.false in omega arith
+returns c = let e : c.sum.result ≡ sum_by unsigned_abs c.args.weights.now = search rules in e ∙ sum_by-unsigned_abs _

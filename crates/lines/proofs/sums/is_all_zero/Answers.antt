@@ -1,16 +1,13 @@
-use Rattle.std.proofs.Common.{sym, ◌∙◌, arith}
+use Rattle.std.proofs.Common.{◌∙◌, rules}
 use Rattle.std.proofs.lemmas.Int.{ints}
-use Rattle.std.proofs.lemmas.Bool.Decides.{nat_tests}
-use Rattle.std.proofs.lemmas.List.{at_drop_all}
-use Rattle.settlement.specs.Sums.{all_zero}
-use Rattle.lines.proofs.Steps.{zero_more, zero_not}
+use Rattle.std.proofs.lemmas.Iterator.{YieldsList-from_slice}
+use Rattle.std.proofs.lemmas.Iterator.Search.{all_from_yields_List}
+use borrow.Author.Tests.{tests}
+use Rattle.settlement.specs.Sums.{is_zero}
+use Rattle.lines.proofs.Zeros.{list_all_zero}
 use Rattle.lines.proofs.sums.is_all_zero.Goals as goal
 
-pub returns-then-weight-ne0 : goal.returns-then-weight-ne0
-returns-then-weight-ne0 c = let e = zero_not c.args.weights.now c.loop-weight.weight-index c.loop-weight-test.true (grind (arith, ints, nat_tests)) in sym e ∙ c.loop-weight.invariant
-
-pub loop-weight-preserved : goal.loop-weight-preserved
-loop-weight-preserved c = sym (zero_more c.args.weights.now c.loop-weight.weight-index c.loop-weight-test.true (omega (arith, ints))) ∙ c.loop-weight.invariant
-
 pub returns : goal.returns
-returns c = sym (at_drop_all all_zero c.args.weights.now c.loop-weight.weight-index c.loop-weight-test.false) ∙ c.loop-weight.invariant
+returns c =
+    all_from_yields_List is_zero _ _ c.all.result c.all.ensures.ran (YieldsList-from_slice c.args.weights.now cc) (λ x b q k. search (rules, ints, tests))
+    ∙ list_all_zero c.args.weights.now

@@ -5,4 +5,4 @@ use Rattle.refunds.proofs.minutes.minutes_in.Goals as goal
 
 pub returns : goal.returns
 unfolding minutes_in
-returns c = omega (arith, ints)
+returns c = let first = rw c.unwrap-first.ensures at c.try_from.ensures in omega (arith, ints, first)

@@ -1,10 +1,11 @@
-use Rattle.std.proofs.Common.{◌≡◌, ◌≤◌, map, length, take}
+use Rattle.std.proofs.Common.{◌≡◌, ◌≤◌, map, length}
+use Rattle.std.specs.List.{range_with_len}
 use Rattle.settlement.specs.Sums.{at}
-use Rattle.refunds.specs.Rows.{own_places}
+use Rattle.settlement.specs.Days.{owned}
+use Rattle.settlement.specs.Figures.{the_day}
 use Rattle.refunds.proofs.owners.gather.Given as goal
 
 abbrev pub invariant-loop-place : goal.invariant-loop-place
 invariant-loop-place l =
-    (l.count ≡ length (own_places l.resources l.member l.place)) ×
-    (l.count ≤ l.place) ×
-    (take l.count l.out ≡ map (at l.figures) (own_places l.resources l.member l.place))
+    (length l.own ≤ l.place) ×
+    (l.own ≡ map (at l.figures) (owned (the_day l.owner.tables.now) l.owner.member (range_with_len 0 l.place)))

@@ -1,6 +1,7 @@
 use Rattle.std.proofs.Common.{◌≡◌, pos, sym, ◌∙◌, arith}
 use Rattle.std.proofs.lemmas.Int.{ints, to_z-of_z}
-use Rattle.settlement.proofs.Steps.{zeros_are, allocated_fixed, zero_allocated, some_allocated}
+use Rattle.settlement.proofs.Shares.{zero_allocated}
+use Rattle.settlement.proofs.Steps.{zeros_are, allocated_fixed, some_allocated}
 use Rattle.settlement.proofs.figures.allocate_amount.Goals as goal
 
 pub returns-then-amount-eq0 : goal.returns-then-amount-eq0

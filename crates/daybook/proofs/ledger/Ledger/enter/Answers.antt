@@ -9,4 +9,4 @@ unfolding book_of
 returns c =
     let s = state_of c.args.self.now.inputs in
     let call = c.args.call in
-    entered_outcome (refusal s call) (answer_of s call) s (state_of c.apply.new.self) c.args.self.now.lines call c.apply.result c.apply.ensures.outcome
+    entered_outcome (refusal s call) (answer_of s call) s (state_of c.apply.new.self) c.args.self.now.lines.rows call c.apply.result c.apply.ensures.outcome

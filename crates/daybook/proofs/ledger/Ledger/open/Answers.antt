@@ -1,10 +1,8 @@
-use Rattle.std.proofs.Common.{replicate}
 use Rattle.inputs.specs.States.{state_of}
-use Rattle.settlement.specs.Settlement.{zero_line}
 use Rattle.daybook.specs.Books.{book_of}
 use Rattle.daybook.proofs.Books.{opened_over}
 use Rattle.daybook.proofs.ledger.Ledger.open.Goals as goal
 
 pub returns : goal.returns
 unfolding book_of
-returns c = opened_over (state_of c.open.result) (replicate 24 (replicate 16 zero_line)) c.open.ensures
+returns c = opened_over (state_of c.open.result) c.blank.result.rows c.open.ensures

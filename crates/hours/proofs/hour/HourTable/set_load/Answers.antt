@@ -7,10 +7,10 @@ use Rattle.hours.proofs.hour.HourTable.set_load.Goals as goal
 pub invariant_of-self : goal.invariant_of-self
 invariant_of-self c =
     let t = c.args.self.now in
-    let h = c.args.hour in
+    let h = c.index.result in
     let x = hour_at t.hours h in
     let in-hours : h < length t.hours = search rules in
-    let row : length x.loads ≡ 16 = t.rows h c.requires.hour in
+    let row : length x.loads ≡ 16 = t.rows h c.index.ensures.within in
     record {
       rows = of_set (λ z. length z.loads ≡ 16) 24 t.hours h _ no_hour in-hours (λ _. length-set x.loads _ _ ∙ row) t.rows;
       synchronized = of_set (λ z. z.synchronized_price ≤ 400000) 24 t.hours h _ no_hour in-hours (t.synchronized h) t.synchronized;

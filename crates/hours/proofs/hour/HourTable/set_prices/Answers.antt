@@ -6,7 +6,7 @@ use Rattle.hours.proofs.hour.HourTable.set_prices.Goals as goal
 pub invariant_of-self : goal.invariant_of-self
 invariant_of-self c =
     let t = c.args.self.now in
-    let h = c.args.hour in
+    let h = c.index.result in
     let in-hours : h < length t.hours = search rules in
     record {
       rows = of_set (λ z. length z.loads ≡ 16) 24 t.hours h _ no_hour in-hours (t.rows h) t.rows;

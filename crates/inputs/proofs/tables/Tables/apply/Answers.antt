@@ -1,40 +1,47 @@
-use Rattle.std.proofs.Common.{Err, ap, ◌∙◌}
-use Rattle.std.proofs.lemmas.Result.{err_from_is_err_and}
-use Rattle.inputs.proofs.Refusals.{refused}
+use Rattle.std.proofs.Common.{◌≡◌, rules}
+use Rattle.std.specs.Result.{result_map_both}
+use Rattle.inputs.specs.declared.call.Answer.TheVariants.{Place, Cleared}
+use Rattle.inputs.proofs.Refusals.{wrapped, identity}
 use Rattle.inputs.proofs.tables.Tables.apply.Goals as goal
 
-pub returns-in_err-enrol-in-Enrol : goal.returns-in_err-enrol-in-Enrol
-returns-in_err-enrol-in-Enrol c =
-    let e = err_from_is_err_and c.from_residual.result c.from_residual.ensures.1 in
-    let x = refused _ _ _ _ _ _ _ _ c.in_err-enrol-in-Enrol.ensures (e.1 ∙ ap Err e.2) in
-    rw c.in-Enrol.is (record { outcome = x.outcome; refused = x.identity })
+pub returns-in-Enrol : goal.returns-in-Enrol
+returns-in-Enrol c =
+    let is : c.map.result ≡ result_map_both Place (λ e. e) c.enrol.result = search rules in
+    let o = wrapped Place _ _ _ _ _ _ _ is c.enrol.ensures in
+    rw c.in-Enrol.is (record { outcome = o; refused = identity _ _ _ _ _ _ o })
 
-pub returns-in_err-register-in-Register : goal.returns-in_err-register-in-Register
-returns-in_err-register-in-Register c =
-    let e = err_from_is_err_and c.from_residual-in_err-register-in-Register.result c.from_residual-in_err-register-in-Register.ensures.1 in
-    let x = refused _ _ _ _ _ _ _ _ c.in_err-register-in-Register.ensures (e.1 ∙ ap Err e.2) in
-    rw c.in-Register.is (record { outcome = x.outcome; refused = x.identity })
+pub returns-in-Register : goal.returns-in-Register
+returns-in-Register c =
+    let is : c.map-in-Register.result ≡ result_map_both Place (λ e. e) c.register.result = search rules in
+    let o = wrapped Place _ _ _ _ _ _ _ is c.register.ensures in
+    rw c.in-Register.is (record { outcome = o; refused = identity _ _ _ _ _ _ o })
 
-pub returns-in_err-set_load-in-SetLoad : goal.returns-in_err-set_load-in-SetLoad
-returns-in_err-set_load-in-SetLoad c =
-    let e = err_from_is_err_and c.from_residual-in_err-set_load-in-SetLoad.result c.from_residual-in_err-set_load-in-SetLoad.ensures.1 in
-    let x = refused _ _ _ _ _ _ _ _ c.in_err-set_load-in-SetLoad.ensures (e.1 ∙ ap Err e.2) in
-    rw c.in-SetLoad.is (record { outcome = x.outcome; refused = x.identity })
+pub returns-in-SetLoad : goal.returns-in-SetLoad
+returns-in-SetLoad c =
+    let is : c.map-in-SetLoad.result ≡ result_map_both Cleared (λ e. e) c.set_load.result = search rules in
+    let o = wrapped Cleared _ _ _ _ _ _ _ is c.set_load.ensures in
+    rw c.in-SetLoad.is (record { outcome = o; refused = identity _ _ _ _ _ _ o })
 
-pub returns-in_err-set_prices-in-SetPrices : goal.returns-in_err-set_prices-in-SetPrices
-returns-in_err-set_prices-in-SetPrices c =
-    let e = err_from_is_err_and c.from_residual-in_err-set_prices-in-SetPrices.result c.from_residual-in_err-set_prices-in-SetPrices.ensures.1 in
-    let x = refused _ _ _ _ _ _ _ _ c.in_err-set_prices-in-SetPrices.ensures (e.1 ∙ ap Err e.2) in
-    rw c.in-SetPrices.is (record { outcome = x.outcome; refused = x.identity })
+pub returns-in-SetPrices : goal.returns-in-SetPrices
+returns-in-SetPrices c =
+    let is : c.map-in-SetPrices.result ≡ result_map_both Cleared (λ e. e) c.set_prices.result = search rules in
+    let o = wrapped Cleared _ _ _ _ _ _ _ is c.set_prices.ensures in
+    rw c.in-SetPrices.is (record { outcome = o; refused = identity _ _ _ _ _ _ o })
 
-pub returns-in_err-assign-in-Assign : goal.returns-in_err-assign-in-Assign
-returns-in_err-assign-in-Assign c =
-    let e = err_from_is_err_and c.from_residual-in_err-assign-in-Assign.result c.from_residual-in_err-assign-in-Assign.ensures.1 in
-    let x = refused _ _ _ _ _ _ _ _ c.in_err-assign-in-Assign.ensures (e.1 ∙ ap Err e.2) in
-    rw c.in-Assign.is (record { outcome = x.outcome; refused = x.identity })
+pub returns-in-Assign : goal.returns-in-Assign
+returns-in-Assign c =
+    let is : c.map-in-Assign.result ≡ result_map_both Cleared (λ e. e) c.assign.result = search rules in
+    let o = wrapped Cleared _ _ _ _ _ _ _ is c.assign.ensures in
+    rw c.in-Assign.is (record { outcome = o; refused = identity _ _ _ _ _ _ o })
 
-pub returns-in_err-set_trade-in-SetTrade : goal.returns-in_err-set_trade-in-SetTrade
-returns-in_err-set_trade-in-SetTrade c =
-    let e = err_from_is_err_and c.from_residual-in_err-set_trade-in-SetTrade.result c.from_residual-in_err-set_trade-in-SetTrade.ensures.1 in
-    let x = refused _ _ _ _ _ _ _ _ c.in_err-set_trade-in-SetTrade.ensures.outcome (e.1 ∙ ap Err e.2) in
-    rw c.in-SetTrade.is (record { outcome = x.outcome; refused = x.identity })
+pub returns-in-SetTrade : goal.returns-in-SetTrade
+returns-in-SetTrade c =
+    let is : c.map-in-SetTrade.result ≡ result_map_both Cleared (λ e. e) c.set_trade.result = search rules in
+    let o = wrapped Cleared _ _ _ _ _ _ _ is c.set_trade.ensures.outcome in
+    rw c.in-SetTrade.is (record { outcome = o; refused = identity _ _ _ _ _ _ o })
+
+pub returns-in-Happen : goal.returns-in-Happen
+returns-in-Happen c =
+    let is : c.map-in-Happen.result ≡ result_map_both Cleared (λ e. e) c.happen.result = search rules in
+    let o = wrapped Cleared _ _ _ _ _ _ _ is c.happen.ensures in
+    rw c.in-Happen.is (record { outcome = o; refused = identity _ _ _ _ _ _ o })

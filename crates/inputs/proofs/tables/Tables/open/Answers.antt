@@ -4,6 +4,8 @@ use Rattle.inputs.proofs.tables.Tables.open.Goals as goal
 
 pub invariant_of-result : goal.invariant_of-result
 invariant_of-result c = record {
+  few_members = search rules;
+  few_resources = search rules;
   enrolled = search rules;
   registered = search rules;
   owners = search rules;

@@ -1,0 +1,10 @@
+use Rattle.std.proofs.Common.{◌*ℤ◌, rules}
+use Rattle.std.proofs.lemmas.Int.{unsigned_abs-mul}
+use Rattle.allocation.specs.Products.{rest_is}
+use Rattle.allocation.proofs.rule.Examined.dropped_of.Goals as goal
+
+pub returns : goal.returns
+returns c =
+    let t = unsigned_abs-mul c.args.self.now.amount c.args.weight in
+    let r = rest_is (c.args.self.now.amount *ℤ c.args.weight) c.args.self.now.whole (rw c.args.self.now.sum c.args.self.now.passed.above) in
+    search rules

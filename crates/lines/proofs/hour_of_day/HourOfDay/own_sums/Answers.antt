@@ -1,0 +1,9 @@
+use Rattle.std.proofs.Common.{rules}
+use Rattle.std.proofs.lemmas.Int.{ints}
+use Rattle.lines.proofs.hour_of_day.HourOfDay.own_sums.Goals as goal
+
+pub returns : goal.returns
+returns c = record {
+  value = λ m l. let h = c.by_member.ensures m l in search (rules, ints);
+  size = λ m l. let h = c.by_member.ensures m l in search (rules, ints);
+}

@@ -1,7 +1,0 @@
-use Rattle.std.proofs.Common.{rules}
-use Rattle.settlement.specs.Shortfalls.{response}
-use Rattle.refunds.proofs.responses.response.Goals as goal
-
-pub returns : goal.returns
-unfolding response
-returns c = search rules
