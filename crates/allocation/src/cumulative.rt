@@ -60,6 +60,7 @@ impl AllocationRule for CumulativeRounding {
 
     ghost rounded = { λ rule a ws h. cumulative_rounded a ws h.above };
 
+    // The examination and one call, as in every rule: a method of the interface could not promise what this rule alone does.
     #[tactic(auto, using(crate::specs::Verdicts::admitted, crate::specs::Figures::first_shares))]
     fn allocate(
         &self,

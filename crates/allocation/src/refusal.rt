@@ -15,7 +15,7 @@ pub enum AllocationRefusal {
 }
 
 impl AllocationRefusal {
-    // The number by which the refusal is known outside.
+    // The number by which the refusal is known outside. The book's refusals have theirs: no crate stands below both.
     pub fn number(self) -> u8
         ensures { result ≡ number self }
     {

@@ -77,7 +77,7 @@ impl Examined<'_> {
         requires { length shares.old ≡ length self.now.weights.now }
         ensures { shares.new ≡ remainder self.now.amount self.now.weights.now }
     {
-        // The shares stand in the caller's slice, so the keys have an array of their own.
+        // The shares stand in the caller's slice, so the keys have room of their own, of fixed size: there is no heap.
         let mut room = [0i64; MAX_WEIGHTS];
         let keys = &mut room[0..self.weights.len()];
         self.take_all_down(shares, keys);
@@ -97,6 +97,7 @@ impl AllocationRule for LargestRemainder {
 
     ghost rounded = { λ rule a ws h. remainder_rounded a ws h.above };
 
+    // The examination and one call, as in every rule: a method of the interface could not promise what this rule alone does.
     #[tactic(auto, using(crate::specs::Verdicts::admitted, crate::specs::Remainders::largest_remainders))]
     fn allocate(
         &self,

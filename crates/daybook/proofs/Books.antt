@@ -90,12 +90,3 @@ pub opened_over : (s : State) (rows : List (List Line)) → s ≡ opened → boo
 opened_over s rows e =
     ap (λ (x : State). book_over x rows) e
     ∙ same_book (book_over opened rows) opened_book refl (λ h m. cond-false (settled_at opened h) _ _ (all_off 24 h))
-
--- rows of one width stay so when a row of that width is set
-pub rows_wide : {A : Type 0} (rows : List (List A)) (k w n : ℕ) (row : List A) → k < length rows → length row ≡ w
-    → ((h : ℕ) → h < n → length (get_or rows h []) ≡ w) → (h : ℕ) → h < n → length (get_or (set rows k row) h []) ≡ w
-rows_wide rows k w n row tall wide old h l =
-    ⊎_elim
-    (λ (e : h ≡ k). rw (e, get_or-set_same rows k row [] tall) wide)
-    (λ (ne : h ≡ k → ⊥). rw (get_or-set_other rows k h row [] ne) (old h l))
-    (cases_eq h k)

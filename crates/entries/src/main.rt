@@ -97,7 +97,7 @@ fn correct(rt: &impl Print, day: &mut Tables) -> io::Result<()> {
     println!(rt; "trade {trade}, begin {begin}, reading {reading}")
 }
 
-// What the questions answer, refusals as their numbers.
+// What the questions answer, refusals as their numbers: two sentences of many values, of which no type is made.
 fn print_questions(rt: &impl Print, day: &Tables) -> io::Result<()> {
     println!(rt;
         "{} members, {} resources, {} trades, {} closed events",

@@ -116,9 +116,9 @@ impl Events {
                 if start >= MINUTES_PER_DAY || start < self.last_end() {
                     return Err(BookFault::BadMinute);
                 }
-                // The minute was bounded just above, so the cast loses nothing; `try_from` would have an error to answer for.
                 self.readings = [SILENT; MAX_RESOURCES];
                 self.state = EventState::Running {
+                    // Bounded just above, so the cast loses nothing; `try_from` would have an error to answer for.
                     start: start as u16,
                 };
                 Ok(())
@@ -132,6 +132,7 @@ impl Events {
                     sample,
                 },
             ) => {
+                // Who or what a code does not name is refused in this form, here and where members are named.
                 let Some(place) = resources.place_named(resource) else {
                     return Err(BookFault::NoSuchResource);
                 };
@@ -148,6 +149,7 @@ impl Events {
                 self.state = EventState::Quiet;
                 let event = Event {
                     start,
+                    // Bounded just above.
                     end: end as u16,
                     readings,
                 };

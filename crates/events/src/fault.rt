@@ -35,10 +35,11 @@ pub enum BookFault {
 }
 
 impl BookFault {
-    // Its number.
+    // Its number. The refusals of a rule have theirs: no crate stands below both.
     pub fn number(self) -> u8
         ensures { result ≡ number self }
     {
+        // No conversion but `as` takes a variant to its number.
         self as u8
     }
 }

@@ -36,6 +36,7 @@ impl Tables {
     }
 
     // The place of the member that a code names; who is not found is refused here, for every call that names one.
+    // Its twin of resources has a refusal of its own.
     pub fn member_place(&self, code: &[u8]) -> Result<usize, BookFault>
         ensures value { result ≡ found_or (member (state_of self.now) code.now) NoSuchMember }
         ensures only { OnlyOne (λ m. m) (state_of self.now).inputs.members code.now result }
@@ -59,7 +60,7 @@ impl Tables {
         Ok(place)
     }
 
-    // The code of the member at a place.
+    // The code of the member at a place. Its twin of resources has a refusal of its own.
     pub fn member_at(&self, place: usize) -> Result<Code, BookFault>
         ensures { result ≡ found_or (slice_get (state_of self.now).inputs.members place) NoSuchMember }
     {

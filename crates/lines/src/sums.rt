@@ -31,6 +31,7 @@ pub(crate) fn shares_of<R: AllocationRule>(
     requires allocable { Allocable amount weights.now }
     ensures { take (length weights.now) result ≡ allocated (R.AllocationRule.shares rule.now) amount weights.now }
 {
+    // Room of fixed size, of which the front is used: there is no heap.
     let mut shares = [0; MAX_MEMBERS];
     allocate_amount(rule, amount, weights, &mut shares[..weights.len()]);
     shares

@@ -31,6 +31,7 @@ fn scatter(owner: &Owner, shares: &[i64], out: &mut [i64; MAX_RESOURCES])
     requires { length shares.now ≡ length (owned (the_day owner.now.tables.now) owner.now.member (resources (the_day owner.now.tables.now))) }
     ensures { ScatteredFor (the_day owner.now.tables.now) owner.now.member shares.now out.old out.new }
 {
+    // By place over the roll, since there is room for every place of the tables, also past the last resource.
     // How many shares are written: they stand close together, their resources do not.
     let mut next = 0;
     for (place, resource) in owner.tables.resources().iter().enumerate() {

@@ -38,6 +38,7 @@ fn lines_of(book: &Book) -> Result<[Line; 3], BookFault> {
     MEMBERS.try_map(|code| book.line(HOUR, code.as_bytes()))
 }
 
+// One sentence of many values, of which no type is made for this program alone; so are those below.
 fn print_line(rt: &impl Print, code: &str, line: &Line) -> io::Result<()> {
     println!(rt;
         "  {code}: obligation {}, adjusted {}, charged {} and {}, credited {} and {}",
@@ -54,7 +55,7 @@ fn print_line(rt: &impl Print, code: &str, line: &Line) -> io::Result<()> {
 fn balance<F: Fn(&Line) -> (i64, i64)>(lines: &[Line], credit_and_charge: F) -> i64
     requires { F.IsAlwaysCallable credit_and_charge }
 {
-    // A loop: that the closure may be called in a fold over `map` would have to be asked of each of its values.
+    // A loop: in a fold over `map` it is left open that the closure may be called.
     let mut sum = 0i64;
     for line in lines {
         let (credit, charge) = credit_and_charge(line);

@@ -10,6 +10,7 @@ pub const MAX_CODE: usize = 6;
 // What stands after the last sign of a short code.
 const PAD: u8 = 0;
 
+// In fixed memory: a short code is filled up.
 #[derive(Clone, Copy, PartialEq, Eq, Debug)]
 pub struct Code {
     signs: [u8; MAX_CODE],

@@ -4,12 +4,6 @@ use Rattle.inputs.specs.declared.call.Answer.TheVariants.{Place, Cleared}
 use Rattle.inputs.proofs.Refusals.{wrapped, identity}
 use Rattle.inputs.proofs.tables.Tables.apply.Goals as goal
 
-pub returns-in-Enrol : goal.returns-in-Enrol
-returns-in-Enrol c =
-    let is : c.map.result ≡ result_map_both Place (λ e. e) c.enrol.result = search rules in
-    let o = wrapped Place _ _ _ _ _ _ _ is c.enrol.ensures in
-    rw c.in-Enrol.is (record { outcome = o; refused = identity _ _ _ _ _ _ o })
-
 pub returns-in-Register : goal.returns-in-Register
 returns-in-Register c =
     let is : c.map-in-Register.result ≡ result_map_both Place (λ e. e) c.register.result = search rules in
@@ -21,12 +15,6 @@ returns-in-SetLoad c =
     let is : c.map-in-SetLoad.result ≡ result_map_both Cleared (λ e. e) c.set_load.result = search rules in
     let o = wrapped Cleared _ _ _ _ _ _ _ is c.set_load.ensures in
     rw c.in-SetLoad.is (record { outcome = o; refused = identity _ _ _ _ _ _ o })
-
-pub returns-in-SetPrices : goal.returns-in-SetPrices
-returns-in-SetPrices c =
-    let is : c.map-in-SetPrices.result ≡ result_map_both Cleared (λ e. e) c.set_prices.result = search rules in
-    let o = wrapped Cleared _ _ _ _ _ _ _ is c.set_prices.ensures in
-    rw c.in-SetPrices.is (record { outcome = o; refused = identity _ _ _ _ _ _ o })
 
 pub returns-in-Assign : goal.returns-in-Assign
 returns-in-Assign c =
