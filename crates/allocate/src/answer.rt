@@ -74,6 +74,7 @@ pub(crate) fn answer_to(heap: Global, line: &[u8]) -> Result<Answer, AllocError>
     ensures { IfOk result (λ a. reply_of a ≡ reply_to line.now) }
 {
     let request = numbers(heap, line)?;
+    // A line that is no request has an answer: by `?` it would be an error of the run.
     let Some([amount, weights @ ..]) = request.as_deref() else {
         return Ok(Err(NoShares::NotARequest));
     };
