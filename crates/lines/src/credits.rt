@@ -106,7 +106,7 @@ impl Delivered<'_> {
         ensures { ByResource self.now.hour.tables.now result (delivered_tier_one (the_day self.now.hour.tables.now) self.now.hour.hour.place) }
     {
         let HourOfDay { tables, hour } = self.hour;
-        by_resource(self.hour.tables, |resource| {
+        by_resource(tables, |resource| {
             if is_tier_one(tables.assignment_at(hour, resource)) {
                 self.kwh[resource]
             } else {
@@ -121,7 +121,7 @@ impl Delivered<'_> {
     {
         let HourOfDay { tables, hour } = self.hour;
         let prices = tables.hour_at(hour);
-        by_resource(self.hour.tables, |resource| {
+        by_resource(tables, |resource| {
             let assignment = tables.assignment_at(hour, resource);
             credit_of(assignment, &prices, self.kwh[resource])
         })
@@ -133,7 +133,7 @@ impl Delivered<'_> {
         ensures { ByResource self.now.hour.tables.now result (opportunity_cost_credit_of (the_day self.now.hour.tables.now) self.now.hour.hour.place (the_hour self.now.hour.tables.now self.now.hour.hour.place)) }
     {
         let HourOfDay { tables, hour } = self.hour;
-        by_resource(self.hour.tables, |resource| {
+        by_resource(tables, |resource| {
             let assignment = tables.assignment_at(hour, resource);
             opportunity_cost_of(assignment, self.kwh[resource], clearing[resource])
         })
