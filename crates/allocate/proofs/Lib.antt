@@ -1,2 +1,2 @@
 mod Fields
-mod Numbers
+mod Digits

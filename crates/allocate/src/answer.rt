@@ -8,7 +8,7 @@ use crate::request::numbers;
 use allocation::cumulative::CumulativeRounding;
 use allocation::refusal::AllocationRefusal;
 use allocation::remainder::LargestRemainder;
-use allocation::rule::allocate_by;
+use allocation::rule::{allocate_by, examine};
 use std::alloc::{AllocError, Global};
 use std::fmt;
 
@@ -78,6 +78,10 @@ pub(crate) fn answer_to(heap: Global, line: &[u8]) -> Result<Answer, AllocError>
     let Some([amount, weights @ ..]) = request.as_deref() else {
         return Ok(Err(NoShares::NotARequest));
     };
+    // A refused line gets no places: a long one would need as many as it has weights.
+    if let Err(refusal) = examine(*amount, weights, weights.len()) {
+        return Ok(Err(NoShares::Refused(refusal)));
+    }
     let places = Shares::zeros(heap, weights.len())?;
     Ok(allocate_both(*amount, weights, places))
 }

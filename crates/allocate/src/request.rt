@@ -1,33 +1,46 @@
 // Reads the numbers of a request: an amount, then its weights, separated by commas.
-ghost use Rattle.std.specs.Prelude.{◌≡◌, ◌&&◌, IfOk, vec_items, length, nat_le};
-ghost use Rattle.std.specs.List.{list_all};
-ghost use Rattle.std.specs.Char.{is_ascii_digit};
+ghost use Rattle.std.specs.Prelude.{◌≡◌, IfOk, vec_items};
 ghost use Rattle.std.specs.Option.{option_map};
-ghost use Rattle.allocate.specs.Requests.{number_of, numbers_of};
+ghost use Rattle.allocate.specs.Requests.{natural_of, number_of, numbers_of};
 
 use std::alloc::{AllocError, Global};
-use std::str;
 
 const COMMA: u8 = b',';
 
+const MINUS: &[u8] = b"-";
+
+const ZERO: u8 = b'0';
+
+const RADIX: u64 = 10;
+
 const MAX_DIGITS: usize = 19;
 
-// Whether a text is at most nineteen digits, and nothing else.
-fn has_few_digits(text: &[u8]) -> bool
-    ensures { result ≡ (nat_le (length text.now) 19 && list_all is_ascii_digit text.now) }
+// The number that one to nineteen digits write. A loop, since it runs for each field: with the digits tested first and then read as a text, it took three walks.
+fn natural(text: &[u8]) -> Option<u64>
+    ensures { result ≡ natural_of text.now }
 {
-    text.len() <= MAX_DIGITS && text.iter().all(|b| b.is_ascii_digit())
+    if text.is_empty() || text.len() > MAX_DIGITS {
+        return None;
+    }
+    let mut value: u64 = 0;
+    for b in text {
+        if !b.is_ascii_digit() {
+            return None;
+        }
+        value = value * RADIX + u64::from(*b - ZERO);
+    }
+    Some(value)
 }
 
-// The number that a field writes, if it is one and fits. `parse` alone takes a plus and more digits too.
+// The number that a field writes, if it is one and fits.
 fn number(field: &[u8]) -> Option<i64>
     ensures { result ≡ number_of field.now }
 {
-    let digits = field.strip_prefix(b"-").unwrap_or(field);
-    if !has_few_digits(digits) {
-        return None;
-    }
-    str::from_utf8(field).ok()?.parse().ok()
+    let whole = match field.strip_prefix(MINUS) {
+        Some(digits) => -i128::from(natural(digits)?),
+        None => i128::from(natural(field)?),
+    };
+    i64::try_from(whole).ok()
 }
 
 // The numbers of a line, if every field is one.

@@ -74,27 +74,36 @@ pub cumulative_rounded : (a : ℤ) (ws : List ℤ) → pos 0 <ℤ total ws → E
 cumulative_rounded a ws h k l =
     rw (get_or-map-range_with_len (rise a ws) 0 (length ws) k k (pos 0) l (omega arith)) (rise_rounded a ws k h l)
 
--- the loop that writes the rises, at the numbers as the code has them: the first i places hold shares, the others still weights
+-- one turn of the loop that writes the rises, at the numbers as the code has them
 pub record Turned (a : ℤ) (ws out : List ℤ) (i : ℕ) (sum figure_now : ℤ) : Type 0 where
   pub sum_on : sum ≡ total (take i ws)
   pub figure_on : figure_now ≡ figure a ws i
   pub written : (k : ℕ) → k < i → slice_index_or out k (pos 0) ≡ rise a ws k
-  pub waiting : (k : ℕ) → i ≤ k → slice_index_or out k (pos 0) ≡ slice_index_or ws k (pos 0)
 
 pub turn : (a w s s' f f' d : ℤ) (ws out : List ℤ) (i : ℕ) → w ≡ total ws → i < length ws → i < length out
-    → s' ≡ s +ℤ slice_index_or out i (pos 0) → f' ≡ half_up (a *ℤ s') w → d ≡ f' -ℤ f
+    → s' ≡ s +ℤ slice_index_or ws i (pos 0) → f' ≡ half_up (a *ℤ s') w → d ≡ f' -ℤ f
     → Turned a ws out i s f → Turned a ws (slice_set out i d) (i + 1) s' f'
 unfolding figure
 turn a w s s' f f' d ws out i ew l lo es ef ed t =
-    let here = t.waiting i (omega arith) in
-    let more = total_more ws i l in
-    let before = t.sum_on in
-    let sum : s' ≡ total (take (i + 1) ws) = omega (arith, ints) in
+    let sum : s' ≡ total (take (i + 1) ws) = es ∙ ap (λ (z : ℤ). z +ℤ slice_index_or ws i (pos 0)) t.sum_on ∙ sym (total_more ws i l) in
     let fig : f' ≡ figure a ws (i + 1) = ef ∙ ap (λ (z : ℤ). half_up (a *ℤ z) w) sum ∙ ap (half_up (a *ℤ total (take (i + 1) ws))) ew in
     let rose : d ≡ rise a ws i = ed ∙ ap (λ (z : ℤ). z -ℤ f) fig ∙ ap (λ (z : ℤ). figure a ws (i + 1) -ℤ z) t.figure_on in
     record {
       sum_on = sum;
       figure_on = fig;
       written = rw rose (fill_by_more (rise a ws) out i (pos 0) lo t.written);
+    }
+
+-- the same where the weights are written over: the places after the first i still hold them
+pub record TurnedInPlace (a : ℤ) (ws out : List ℤ) (i : ℕ) (sum figure_now : ℤ) : Type 0 where
+  pub turned : Turned a ws out i sum figure_now
+  pub waiting : (k : ℕ) → i ≤ k → slice_index_or out k (pos 0) ≡ slice_index_or ws k (pos 0)
+
+pub turn_in_place : (a w s s' f f' d : ℤ) (ws out : List ℤ) (i : ℕ) → w ≡ total ws → i < length ws → i < length out
+    → s' ≡ s +ℤ slice_index_or out i (pos 0) → f' ≡ half_up (a *ℤ s') w → d ≡ f' -ℤ f
+    → TurnedInPlace a ws out i s f → TurnedInPlace a ws (slice_set out i d) (i + 1) s' f'
+turn_in_place a w s s' f f' d ws out i ew l lo es ef ed t =
+    record {
+      turned = turn a w s s' f f' d ws out i ew l lo (es ∙ ap (λ (z : ℤ). s +ℤ z) (t.waiting i (omega arith))) ef ed t.turned;
       waiting = λ k h. get_or-set_other out i k d (pos 0) (omega arith) ∙ t.waiting k (omega arith);
     }

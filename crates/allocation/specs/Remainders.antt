@@ -1,18 +1,18 @@
 -- Largest remainder keeps the laws of a rule, and hands out in order.
-use Rattle.std.specs.Prelude.{◌≡◌, ℕ, zero, suc, ◌+◌, ◌*◌, ◌<◌, ◌≤◌, Bool, true, false, cond, ◌⊎◌, List, [], ◌∷◌, map, length, get_or, ℤ, pos, negsuc, ◌+ℤ◌, ◌-ℤ◌, ◌*ℤ◌, ◌≤ℤ◌, ◌<ℤ◌, ◌≢◌, int_lt, slice_index_or, slice_set, unsigned_abs, refl}
+use Rattle.std.specs.Prelude.{◌≡◌, ℕ, zero, suc, ◌+◌, ◌*◌, ◌<◌, ◌≤◌, Bool, true, false, cond, ◌⊎◌, List, [], ◌∷◌, ◌++◌, map, length, get_or, take, ℤ, pos, negsuc, ◌+ℤ◌, ◌-ℤ◌, ◌*ℤ◌, ◌≤ℤ◌, ◌<ℤ◌, ◌≢◌, int_lt, slice_index_or, slice_set, unsigned_abs, refl}
 use Rattle.std.proofs.Common.{sym, ap, ◌∙◌, inl, inr, ⊎_elim, arith, mul-add, length-set, get_or-set_same, get_or-set_other}
 use Rattle.std.proofs.lemmas.Int.{unsigned_abs-mul, ints, by_lt_z}
 use Rattle.std.proofs.lemmas.Bool.{cases_eq}
 use Rattle.std.specs.Int.Signed.{≤ℤ_refl}
-use Rattle.std.proofs.lemmas.List.{get_or_default, get_or-map, length-map}
+use Rattle.std.proofs.lemmas.List.{get_or_default, get_or-map, length-map, take_more_set, take_all, map_more}
 use Rattle.allocation.specs.Weights.{total, magnitude}
 use Rattle.allocation.specs.Refusals.{Admissible}
 use Rattle.allocation.specs.Rules.{Rounded, EachRounded}
 use Rattle.allocation.specs.Remainder.{lower, dropped, largest, hand_out, remainder, lower_at, dropped_at, ComesBefore, LargestFirst}
 use Rattle.allocation.specs.Products.{floor_low, floor_high, floor_size, difference_times, times_sum, sum_times}
 use Rattle.allocation.specs.RoundingLemmas.{rounded_from_near, rounded_size}
-use Rattle.allocation.specs.Totals.{total_set}
-use Rattle.allocation.specs.Verdicts.{weight_size, product_size}
+use Rattle.allocation.specs.Totals.{total_set, total_push}
+use Rattle.allocation.specs.Verdicts.{weight_size, product_size, amount_size}
 
 -- ---- what is dropped
 drop_step : (t ax ar m fw dw fdw : ℤ) → t ≡ ar -ℤ dw → m ≡ ax +ℤ ar → fdw ≡ fw +ℤ dw → (ax -ℤ fw) +ℤ t ≡ m -ℤ fdw
@@ -263,7 +263,7 @@ module _ (a : ℤ) (ws : List ℤ) (h : pos 0 <ℤ total ws) where
   }
 
 -- ---- the shares taken down are no larger than amount × the weights
-lower_size : (a w x : ℤ) → pos 0 <ℤ w → unsigned_abs (lower a w x) ≤ unsigned_abs a * unsigned_abs x
+pub lower_size : (a w x : ℤ) → pos 0 <ℤ w → unsigned_abs (lower a w x) ≤ unsigned_abs a * unsigned_abs x
 lower_size a w x h = let f = floor_size (a *ℤ x) w h in let e = unsigned_abs-mul a x in omega arith
 
 pub lowered_size : (a w : ℤ) (ws : List ℤ) → pos 0 <ℤ w → magnitude (map (lower a w) ws) ≤ unsigned_abs a * magnitude ws
@@ -273,6 +273,59 @@ lowered_size a w (x ∷ xs) h =
   where
     by : (p q m n t : ℕ) → p ≤ m → q ≤ n → t ≡ m + n → p + q ≤ t
     by p q m n t h k e = omega arith
+
+-- ---- the loop that takes each share down
+front_lower_size : (a w : ℤ) (ws : List ℤ) (k : ℕ) → pos 0 <ℤ w → unsigned_abs (total (map (lower a w) (take k ws))) ≤ unsigned_abs a * magnitude ws
+front_lower_size a w ws zero h = omega arith
+front_lower_size a w [] (suc k) h = omega arith
+front_lower_size a w (x ∷ xs) (suc k) h =
+    let r = front_lower_size a w xs k h in
+    let s = lower_size a w x h in
+    let m = mul-add (unsigned_abs a) (unsigned_abs x) (magnitude xs) in
+    by (lower a w x) (total (map (lower a w) (take k xs))) (unsigned_abs a * unsigned_abs x) (unsigned_abs a * magnitude xs) (unsigned_abs a * (unsigned_abs x + magnitude xs)) s r m
+  where
+    by : (p q : ℤ) (m n t : ℕ) → unsigned_abs p ≤ m → unsigned_abs q ≤ n → t ≡ m + n → unsigned_abs (p +ℤ q) ≤ t
+    by p q m n t h k e = omega (arith, ints)
+
+pub record Lowering (a w : ℤ) (ws : List ℤ) (i : ℕ) (left : ℤ) (ps ks : List ℤ) : Type 0 where
+  pub left_on : left ≡ a -ℤ total (map (lower a w) (take i ws))
+  pub shares_on : take i ps ≡ map (lower a w) (take i ws)
+  pub keys_on : take i ks ≡ map (dropped a w) (take i ws)
+
+pub lowering_size : (a w : ℤ) (ws ps ks : List ℤ) (i : ℕ) (left : ℤ) → pos 0 <ℤ w → Admissible a ws → Lowering a w ws i left ps ks → unsigned_abs left ≤ 8000000000000000000
+lowering_size a w ws ps ks i left h s t =
+    let f = front_lower_size a w ws i h in
+    let m = s.small in
+    let n = amount_size a ws s in
+    let e = t.left_on in
+    by (total (map (lower a w) (take i ws))) (unsigned_abs a * magnitude ws) f m n e
+  where
+    by : (q : ℤ) (m : ℕ) → unsigned_abs q ≤ m → m ≤ 4000000000000000000 → unsigned_abs a ≤ 4000000000000000000 → left ≡ a -ℤ q → unsigned_abs left ≤ 8000000000000000000
+    by q m f g n e = omega (arith, ints)
+
+module _ {X : Type 0} (f : ℤ → X) where
+  front_on : (out : List X) (ws : List ℤ) (i : ℕ) (v : X) → i < length ws → i < length out → v ≡ f (slice_index_or ws i (pos 0)) → take i out ≡ map f (take i ws)
+      → take (i + 1) (slice_set out i v) ≡ map f (take (i + 1) ws)
+  front_on out ws i v l lo e h =
+      take_more_set out i v lo ∙ ap (λ (z : List X). z ++ v ∷ []) h ∙ ap (λ (z : X). map f (take i ws) ++ z ∷ []) e ∙ sym (map_more f ws i (pos 0) l)
+
+  pub front_all : (out : List X) (ws : List ℤ) (i : ℕ) → length ws ≤ i → length out ≤ i → take i out ≡ map f (take i ws) → out ≡ map f ws
+  front_all out ws i l lo h = sym (take_all i out lo) ∙ h ∙ ap (map f) (take_all i ws l)
+
+pub lower_turn : (a w : ℤ) (ws ps ks : List ℤ) (i : ℕ) (left left' x p k : ℤ) → i < length ws → i < length ps → i < length ks
+    → x ≡ slice_index_or ws i (pos 0) → p ≡ lower a w x → k ≡ dropped a w x → left' ≡ left -ℤ p
+    → Lowering a w ws i left ps ks → Lowering a w ws (i + 1) left' (slice_set ps i p) (slice_set ks i k)
+lower_turn a w ws ps ks i left left' x p k l lp lk ex ep ek el t =
+    let e : p ≡ lower a w (slice_index_or ws i (pos 0)) = ep ∙ ap (lower a w) ex in
+    let m = ap total (map_more (lower a w) ws i (pos 0) l) ∙ total_push (map (lower a w) (take i ws)) (lower a w (slice_index_or ws i (pos 0))) in
+    record {
+      left_on = by _ _ _ t.left_on m e;
+      shares_on = front_on (lower a w) ps ws i p l lp e t.shares_on;
+      keys_on = front_on (dropped a w) ks ws i k l lk (ek ∙ ap (dropped a w) ex) t.keys_on;
+    }
+  where
+    by : (s s' q : ℤ) → left ≡ a -ℤ s → s' ≡ s +ℤ q → p ≡ q → left' ≡ a -ℤ s'
+    by s s' q e f g = omega (arith, ints)
 
 -- ---- the loop that hands out
 pub record Serving (a : ℤ) (ws : List ℤ) (left : ℤ) (ps ks : List ℤ) : Type 0 where

@@ -36,7 +36,7 @@ impl Examined<'_> {
 
     // Writes the rises: each place holds its weight, and then its share. After a walk over places and weights side by side nothing is known of the places.
     fn write_rises(&self, out: &mut [i64])
-        requires { length out.old ≡ length self.now.weights.now }
+        requires { verdict self.now.amount self.now.weights.now (length out.old) ≡ Ok self.now.whole }
         ensures { out.new ≡ cumulative self.now.amount self.now.weights.now }
     {
         out.copy_from_slice(self.weights);

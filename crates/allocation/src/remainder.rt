@@ -1,13 +1,13 @@
 // Largest remainder: each share is taken down, and the units left over go one each to the largest dropped fractions.
 ghost use Rattle.std.specs.Prelude.{◌≡◌, ◌*◌, ◌<◌, ◌≤◌, map, length, ℤ, pos, ◌+ℤ◌, ◌-ℤ◌, ◌<ℤ◌, Ok, slice_index_or, slice_set, unsigned_abs};
+ghost use Rattle.allocation.specs.Weights.{total};
 ghost use Rattle.allocation.specs.Refusals.{verdict};
 ghost use Rattle.allocation.specs.Rules.{Allocated};
 ghost use Rattle.allocation.specs.Remainder.{lower, dropped, largest, remainder, LargestFirst};
 ghost use Rattle.allocation.specs.Remainders.{remainder_counted, remainder_whole, remainder_rounded};
 
 use crate::refusal::AllocationRefusal;
-use crate::rule::{AllocationRule, Examined, MAX_WEIGHTS, examine, total_of};
-use std::cmp::Reverse;
+use crate::rule::{AllocationRule, Examined, MAX_WEIGHTS, examine};
 
 #[derive(Clone, Copy, PartialEq, Eq, Debug)]
 pub struct LargestRemainder;
@@ -18,10 +18,16 @@ fn largest_at(keys: &[i64]) -> usize
     ensures value { result ≡ largest keys.now }
     ensures within { result < length keys.now }
 {
-    keys.iter()
-        .enumerate()
-        .max_by_key(|(place, key)| (**key, Reverse(*place)))
-        .map_or(0, |(place, _)| place)
+    // A loop, since it runs for each unit handed out: in a chain the place has to be a part of each key.
+    let mut best = 0;
+    let mut most = keys[0];
+    for (place, key) in keys.iter().enumerate() {
+        if *key > most {
+            most = *key;
+            best = place;
+        }
+    }
+    best
 }
 
 // One unit more to the place of the largest key, which then has none.
@@ -37,51 +43,45 @@ fn hand_out_one(shares: &mut [i64], keys: &mut [i64])
     keys[at] = 0;
 }
 
-// A share and what it drops go to two slices, so each has a function and a walk of its own.
 impl Examined<'_> {
-    // A share taken down.
-    fn take_down(&self, weight: i64) -> i64
+    // A share taken down, and what it drops: one quotient and its rest.
+    fn take_down(&self, weight: i64) -> (i64, i64)
         requires { unsigned_abs self.now.amount * unsigned_abs weight ≤ 4000000000000000000 }
-        ensures { result ≡ lower self.now.amount self.now.whole weight }
+        ensures share { result.0 ≡ lower self.now.amount self.now.whole weight }
+        ensures drop { result.1 ≡ dropped self.now.amount self.now.whole weight }
     {
-        (self.amount * weight).div_euclid(self.whole)
+        let due = self.amount * weight;
+        (due.div_euclid(self.whole), due.rem_euclid(self.whole))
     }
 
-    // What a share drops when it is taken down.
-    fn dropped_of(&self, weight: i64) -> i64
-        requires { unsigned_abs self.now.amount * unsigned_abs weight ≤ 4000000000000000000 }
-        ensures { result ≡ dropped self.now.amount self.now.whole weight }
-    {
-        (self.amount * weight).rem_euclid(self.whole)
-    }
-
-    // Writes each share taken down and what it drops. The weights are copied and turned in place: after a walk over places and weights side by side nothing is known of the places.
-    fn take_all_down(&self, shares: &mut [i64], keys: &mut [i64])
+    // Writes each share taken down and what it drops, and answers what is left of the amount.
+    // By place, in one walk: each weight is divided once, and after a walk over places and weights side by side nothing is known of the places.
+    fn take_all_down(&self, shares: &mut [i64], keys: &mut [i64]) -> i64
         requires places { length shares.old ≡ length self.now.weights.now }
         requires room { length keys.old ≡ length self.now.weights.now }
         ensures shares { shares.new ≡ map (lower self.now.amount self.now.whole) self.now.weights.now }
         ensures keys { keys.new ≡ map (dropped self.now.amount self.now.whole) self.now.weights.now }
+        ensures left { result ≡ self.now.amount -ℤ total (map (lower self.now.amount self.now.whole) self.now.weights.now) }
     {
-        shares.copy_from_slice(self.weights);
-        for share in shares.iter_mut() {
-            *share = self.take_down(*share);
+        let mut left = self.amount;
+        for (place, weight) in self.weights.iter().enumerate() {
+            let (share, key) = self.take_down(*weight);
+            shares[place] = share;
+            keys[place] = key;
+            left -= share;
         }
-        keys.copy_from_slice(self.weights);
-        for key in keys.iter_mut() {
-            *key = self.dropped_of(*key);
-        }
+        left
     }
 
     // Writes the shares taken down, and then the units left over.
     fn write_shares(&self, shares: &mut [i64])
-        requires { length shares.old ≡ length self.now.weights.now }
+        requires { verdict self.now.amount self.now.weights.now (length shares.old) ≡ Ok self.now.whole }
         ensures { shares.new ≡ remainder self.now.amount self.now.weights.now }
     {
         // The shares stand in the caller's slice, so the keys have room of their own, of fixed size: there is no heap.
         let mut room = [0i64; MAX_WEIGHTS];
         let keys = &mut room[0..self.weights.len()];
-        self.take_all_down(shares, keys);
-        let left = self.amount - total_of(shares);
+        let left = self.take_all_down(shares, keys);
         for _ in 0..left {
             hand_out_one(shares, keys);
         }

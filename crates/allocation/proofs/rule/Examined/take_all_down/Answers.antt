@@ -1,42 +1,37 @@
-use Rattle.std.proofs.Common.{◌≡◌, ℕ, ◌+◌, ◌-◌, ◌*◌, ◌<◌, ◌≤◌, List, ◌++◌, map, length, get_or, set, take, drop, ℤ, pos, nat_abs, sym, ap, ◌∙◌, arith, w64, SFits, rules}
-use Rattle.std.proofs.lemmas.Int.{to_z-of_z}
-use Rattle.std.proofs.lemmas.List.{get_or_default, get_or-append_right, get_or-drop, length-map, length-take-le}
-use Rattle.std.proofs.lemmas.List.Edits.{map_over_more}
-use Rattle.allocation.specs.Refusals.{Admissible}
+use Rattle.std.proofs.Common.{◌+◌, get_or, set, ℤ, pos, ◌-ℤ◌, refl, ◌∙◌, arith, w64, SFits, to_z, of_z, rules}
+use Rattle.std.proofs.lemmas.Int.{ints, to_z-of_z}
 use Rattle.allocation.specs.Verdicts.{product_size, weight_size}
+use Rattle.allocation.specs.Remainders.{Lowering, lower_turn, lowering_size}
 use Rattle.allocation.proofs.rule.Examined.take_all_down.Goals as goal
 
--- where the first i places are replaced, the place at i still holds its weight
-module _ (f : ℤ → ℤ) (ws ys : List ℤ) (i : ℕ) (l : i < length ws) (e : ys ≡ map f (take i ws) ++ drop i ws) where
-  here : (d : ℤ) → get_or ys i d ≡ get_or ws i d
-  here d =
-      let front : length (map f (take i ws)) ≡ i = length-map (take i ws) f ∙ length-take-le i ws (omega arith) in
-      rw e (get_or-append_right (map f (take i ws)) (drop i ws) i i d front (omega arith) ∙ get_or-drop i ws (i - i) d ∙ ap (λ (n : ℕ). get_or ws n d) (omega arith))
+-- the loop's facts after this turn
+turned : (c : goal.After-struct_told-in-loop-place-1) (left : ℤ)
+    → Lowering c.args.self.now.amount c.args.self.now.whole c.args.self.now.weights.now c.loop-place.place left c.loop-place.shares c.loop-place.keys
+    → Lowering c.args.self.now.amount c.args.self.now.whole c.args.self.now.weights.now (c.loop-place.place + 1)
+    (left -ℤ to_z w64 (of_z w64 c.take_down-share.result.0))
+    (set c.loop-place.shares c.loop-place.place (to_z w64 (of_z w64 c.take_down-share.result.0)))
+    (set c.loop-place.keys c.loop-place.place (to_z w64 (of_z w64 c.take_down-share.result.1)))
+turned c left inv =
+    let ws = c.args.self.now.weights.now in
+    let x = get_or ws c.loop-place.place (pos 0) in
+    let fx : SFits w64 x = search rules in
+    let fr : SFits w64 c.take_down-share.result.0 = search rules in
+    let fk : SFits w64 c.take_down-share.result.1 = search rules in
+    lower_turn _ _ ws c.loop-place.shares c.loop-place.keys c.loop-place.place _ _ (to_z w64 (of_z w64 x)) _ _ c.loop-place-test.true (omega arith) (omega arith) (to_z-of_z w64 x fx)
+    (to_z-of_z w64 _ fr ∙ c.take_down-share.ensures.share) (to_z-of_z w64 _ fk ∙ c.take_down-share.ensures.drop) refl inv
 
-  turn : (x y : ℤ) → x ≡ get_or ys i (pos 0) → y ≡ f x → set ys i y ≡ map f (take (i + 1) ws) ++ drop (i + 1) ws
-  turn x y g h = rw (h ∙ ap f (g ∙ here (pos 0))) (map_over_more f ws ys i (get_or ws i (pos 0)) l e (get_or_default ws i (pos 0) _ l ∙ sym (here _)))
+pub take_down-share-requires : goal.take_down-share-requires
+take_down-share-requires c =
+    let s = c.args.self.now in
+    let ws = s.weights.now in
+    let fx : SFits w64 (get_or ws c.loop-place.place (pos 0)) = search rules in
+    simp to_z-of_z (product_size s.amount ws _ s.passed (weight_size ws c.loop-place.place c.loop-place-test.true))
 
-  small : (a x : ℤ) → Admissible a ws → x ≡ get_or ys i (pos 0) → nat_abs a * nat_abs x ≤ 4000000000000000000
-  small a x s g = rw (g ∙ here (pos 0)) (product_size a ws _ s (weight_size ws i l))
+pub overflow_sub-left : goal.overflow_sub-left
+overflow_sub-left c =
+    let s = c.args.self.now in
+    let n = lowering_size _ _ _ _ _ _ _ (rw s.sum s.passed.above) s.passed (turned c _ c.loop-place.invariant) in
+    omega (arith, ints)
 
-pub take_down-requires : goal.take_down-requires
-take_down-requires c =
-    let fx : SFits w64 (get_or c.loop-share.shares c.loop-share.share-index (pos 0)) = search rules in
-    small _ c.args.self.now.weights.now _ c.loop-share.share-index (omega arith) c.loop-share.invariant c.args.self.now.amount _ c.args.self.now.passed (to_z-of_z w64 _ fx)
-
-pub loop-share-preserved : goal.loop-share-preserved
-loop-share-preserved c =
-    let fx : SFits w64 (get_or c.loop-share.shares c.loop-share.share-index (pos 0)) = search rules in
-    let fr : SFits w64 c.take_down.result = search rules in
-    turn _ c.args.self.now.weights.now c.loop-share.shares c.loop-share.share-index (omega arith) c.loop-share.invariant _ _ (to_z-of_z w64 _ fx) (to_z-of_z w64 _ fr ∙ c.take_down.ensures)
-
-pub dropped_of-requires : goal.dropped_of-requires
-dropped_of-requires c =
-    let fx : SFits w64 (get_or c.loop-key.keys c.loop-key.key-index (pos 0)) = search rules in
-    small _ c.args.self.now.weights.now _ c.loop-key.key-index (omega arith) c.loop-key.invariant c.args.self.now.amount _ c.args.self.now.passed (to_z-of_z w64 _ fx)
-
-pub loop-key-preserved : goal.loop-key-preserved
-loop-key-preserved c =
-    let fx : SFits w64 (get_or c.loop-key.keys c.loop-key.key-index (pos 0)) = search rules in
-    let fr : SFits w64 c.dropped_of.result = search rules in
-    turn _ c.args.self.now.weights.now c.loop-key.keys c.loop-key.key-index (omega arith) c.loop-key.invariant _ _ (to_z-of_z w64 _ fx) (to_z-of_z w64 _ fr ∙ c.dropped_of.ensures)
+pub loop-place-preserved : goal.loop-place-preserved
+loop-place-preserved c = rw (to_z-of_z w64 _ (overflow_sub-left c)) (turned c _ c.loop-place.invariant)
