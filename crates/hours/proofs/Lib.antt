@@ -1,1 +1,2 @@
 pub mod Cells
+mod Bounded

@@ -49,7 +49,11 @@ impl SettledHours {
         ensures cleared { result ≡ count_by (λ b. b) self.old.flags }
         ensures flags { self.new.flags ≡ replicate 24 false }
     {
-        let cleared = self.flags.iter().filter(|settled| **settled).count();
+        // The flags are added, since a filter that counts takes them one at a time.
+        let mut cleared = 0;
+        for settled in self.flags {
+            cleared += usize::from(settled);
+        }
         self.flags = [false; HOURS];
         cleared
     }

@@ -42,7 +42,7 @@ impl Tables {
         ensures only { OnlyOne (λ m. m) (state_of self.now).inputs.members code.now result }
         ensures within { IfOk result (λ i. (i < length (state_of self.now).inputs.members) × (i < 16)) }
     {
-        let Some(place) = self.members.place_named(code) else {
+        let Some(place) = self.member_named(code) else {
             return Err(BookFault::NoSuchMember);
         };
         Ok(place)

@@ -1,10 +1,11 @@
 // The calls that enter or correct the day's inputs.
-ghost use Rattle.std.specs.Prelude.{◌≡◌, ◌<◌, true, false, length, IfSome, is_ok, IfOk, if◌then◌else◌, Ok, Err, nat_lt};
+ghost use Rattle.std.specs.Prelude.{◌≡◌, ◌<◌, ◌≤◌, true, false, length, IfSome, is_ok, IfOk, if◌then◌else◌, Ok, Err, nat_lt};
 ghost use Rattle.std.specs.Result.{result_map_both};
 ghost use Rattle.events.specs.declared.fault.BookFault.TheVariants.{TooMuchEnergy};
 ghost use Rattle.events.specs.declared.calls.EventCall.TheVariants.{Begin, Read, Close, Cancel};
 ghost use Rattle.events.specs.Outcomes.{Outcome};
 ghost use Rattle.hours.specs.Assignments.{Small};
+ghost use Rattle.inputs.specs.Inputs.{member_named};
 ghost use Rattle.inputs.specs.States.{opened, state_of, hour_settled};
 ghost use Rattle.inputs.specs.Calls.{hour_place, assignment_verdict, refusal, answer_of, after, Taken, OthersStay, QuantitySet};
 ghost use Rattle.inputs.specs.declared.call.Call.TheVariants.{Enrol, Register, SetLoad, SetPrices, Assign, SetTrade, Happen};
@@ -37,13 +38,14 @@ pub fn hour_place(hour: u64) -> Result<HourPlace, BookFault>
 }
 
 // A figure that is not above its bound, or the refusal.
-fn at_most(figure: u64, most: u32, fault: BookFault) -> Result<u32, BookFault>
+fn at_most(figure: u64, most: u64, fault: BookFault) -> Result<u32, BookFault>
+    requires { most ≤ 4294967295 }
     ensures { result ≡ (if nat_lt most figure then Err fault else Ok figure) }
 {
-    if figure > u64::from(most) {
+    if figure > most {
         return Err(fault);
     }
-    // Not above a `u32`, so the cast loses nothing; `try_from` would have an error to answer for.
+    // Every bound fits in `u32`, so the cast loses nothing; `try_from` would have an error to answer for.
     Ok(figure as u32)
 }
 
@@ -88,6 +90,14 @@ impl Tables {
             events: Events::none(),
             settled: SettledHours::none(),
         }
+    }
+
+    // The place of the member that a code names, if one is enrolled.
+    pub fn member_named(&self, text: &[u8]) -> Option<usize>
+        ensures value { result ≡ member_named self.now.members text.now }
+        ensures within { IfSome result (λ i. (i < length self.now.members) × (i < 16)) }
+    {
+        self.members.place_named(text)
     }
 
     // Marks the hour at a place as settled.

@@ -32,8 +32,7 @@ impl<'a> EventOfDay<'a> {
     pub(crate) fn starting_hour(&self) -> HourPlace
         ensures { result.place ≡ self.now.event.now.start / 60 }
     {
-        // A start is below 1440, so this is hour 1 to 24.
-        let hour = self.event.start / MINUTES_PER_HOUR + 1;
-        HourPlace::of(u64::from(hour)).unwrap()
+        // A start is below 1440, so this is below 24.
+        HourPlace::at(usize::from(self.event.start / MINUTES_PER_HOUR))
     }
 }

@@ -71,6 +71,25 @@ impl<'a> EventShortfalls<'a> {
         }
     }
 
+    // Rows that were taken of these or other tables, beside tables whose shortfalls they are.
+    pub fn of_rows(
+        tables: &'a Tables,
+        rows: [[i64; MAX_RESOURCES]; MAX_EVENTS],
+    ) -> EventShortfalls<'a>
+        requires { ShortfallsOf (the_day tables.now) rows }
+        ensures tables { result.tables.now ≡ tables.now }
+        ensures rows { result.rows ≡ rows }
+    {
+        EventShortfalls { tables, rows }
+    }
+
+    // The rows, to be kept while the tables change.
+    pub fn rows(&self) -> [[i64; MAX_RESOURCES]; MAX_EVENTS]
+        ensures { result ≡ self.now.rows }
+    {
+        self.rows
+    }
+
     // The largest shortfall of each resource in the events that count and have a minute in an hour.
     // The loop is written out, as for the retroactive ones: what is taken of an event has a contract of its own.
     pub fn largest_shortfalls(&self, hour: HourPlace) -> [i64; MAX_RESOURCES]

@@ -26,6 +26,14 @@ impl HourPlace {
         })
     }
 
+    // The hour at a place.
+    pub fn at(place: usize) -> HourPlace
+        requires { place < 24 }
+        ensures { result.place ≡ place }
+    {
+        HourPlace { place }
+    }
+
     // The place as an index of a table.
     pub fn index(self) -> usize
         ensures value { result ≡ self.place }

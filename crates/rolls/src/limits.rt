@@ -12,17 +12,17 @@ pub const MAX_EVENTS: usize = 4;
 pub const MINUTES_PER_DAY: u64 = 1440;
 
 // Energy in kWh.
-pub const MAX_LOAD_KWH: u32 = 100_000_000;
+pub const MAX_LOAD_KWH: u64 = 100_000_000;
 
-pub const MAX_ASSIGNED_KWH: u32 = 500_000;
+pub const MAX_ASSIGNED_KWH: u64 = 500_000;
 
-pub const MAX_TRADE_KWH: u32 = 500_000;
+pub const MAX_TRADE_KWH: u64 = 500_000;
 
 // Prices in cents per MWh, costs in cents.
-pub const MAX_PRICE: u32 = 400_000;
+pub const MAX_PRICE: u64 = 400_000;
 
-pub const MAX_OFFER: u32 = 400_000;
+pub const MAX_OFFER: u64 = 400_000;
 
-pub const MAX_COSTS: u32 = 300_000_000;
+pub const MAX_COSTS: u64 = 300_000_000;
 
-pub const MAX_INTERVAL_PRICE_SUM: u32 = 4_000_000;
+pub const MAX_INTERVAL_PRICE_SUM: u64 = 4_000_000;

@@ -1,14 +1,17 @@
-// The figures that the steps of settlement share: assigned kWh, cents, allocated amounts, figures by place.
-ghost use Rattle.std.specs.Prelude.{◌≡◌, ℕ, ◌<◌, ◌≤◌, length, pos, ◌*ℤ◌, ◌≤ℤ◌, slice_index_or};
+// The figures that the steps of settlement share: assigned kWh, cents, allocated amounts, sums over a member's resources, figures by place.
+ghost use Rattle.std.specs.Prelude.{◌≡◌, ℕ, ◌<◌, ◌≤◌, length, pos, ◌*ℤ◌, ◌≤ℤ◌, filter, nat_eq, slice_index_or, unsigned_abs};
+ghost use Rattle.std.specs.List.{range_with_len};
 ghost use Rattle.allocation.specs.Rounding.{half_up};
+ghost use Rattle.events.specs.Resources.{no_resource};
 ghost use Rattle.hours.specs.Assignments.{kwh_of};
-ghost use Rattle.settlement.specs.Sums.{allocated, at};
+ghost use Rattle.settlement.specs.Sums.{sum, at, allocated};
 ghost use Rattle.settlement.specs.Days.{assigned};
 ghost use Rattle.settlement.specs.Figures.{the_day};
 ghost use Rattle.settlement.specs.Laws.{Allocable};
 
 use allocation::cumulative::divide_half_up;
 use allocation::rule::AllocationRule;
+use events::resource::Resource;
 use hours::assignment::Assignment;
 use inputs::tables::Tables;
 use rolls::hour::HourPlace;
@@ -66,6 +69,24 @@ pub fn allocate_amount<R: AllocationRule>(
     } else {
         let _ = rule.allocate(amount, weights, shares);
     }
+}
+
+// The sum of figures over the resources of a member.
+pub fn own_sum(resources: &[Resource], member: usize, figures: &[i64]) -> i64
+    requires few { length resources.now ≤ 16 }
+    requires places { length figures.now ≡ 16 }
+    requires small { (r : ℕ) → r < length resources.now → unsigned_abs (at figures.now r) ≤ 1000000000000 }
+    ensures value { result ≡ sum (filter (λ k. nat_eq (slice_index_or resources.now k no_resource).owner member) (range_with_len 0 (length resources.now))) (at figures.now) }
+    ensures size { unsigned_abs result ≤ 16000000000000 }
+{
+    // By place, and in a loop: there are more figures than resources, and in a chain no bound of a signed sum is known.
+    let mut sum = 0;
+    for (place, resource) in resources.iter().enumerate() {
+        if resource.owner == member {
+            sum += figures[place];
+        }
+    }
+    sum
 }
 
 // What each of the first places has, and the same for all after them. What is made of several arrays is made by

@@ -4,6 +4,7 @@ ghost use Rattle.settlement.specs.Sums.{at};
 ghost use Rattle.settlement.specs.Settlement.{own};
 ghost use Rattle.settlement.specs.Figures.{the_day, Modest};
 
+use crate::figures::own_sum;
 use inputs::tables::Tables;
 use rolls::limits::MAX_RESOURCES;
 
@@ -22,13 +23,6 @@ impl Owner<'_> {
         ensures value { result ≡ own (the_day self.now.tables.now) self.now.member (at figures.now) }
         ensures size { unsigned_abs result ≤ 16000000000000 }
     {
-        // By place, and in a loop: arrays are longer than the roll, and in a chain no bound of a signed sum is known.
-        let mut sum = 0;
-        for (place, resource) in self.tables.resources().iter().enumerate() {
-            if resource.owner == self.member {
-                sum += figures[place];
-            }
-        }
-        sum
+        own_sum(self.tables.resources(), self.member, figures)
     }
 }

@@ -3,3 +3,4 @@ mod Counts
 mod Moves
 mod Wholes
 pub mod Soundness
+pub mod Totals
