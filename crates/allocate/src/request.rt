@@ -15,7 +15,7 @@ const RADIX: u64 = 10;
 
 const MAX_DIGITS: usize = 19;
 
-// The number that one to nineteen digits write. A loop, since it runs for each field: with the digits tested first and then read as a text, it took three walks.
+// The number that one to nineteen digits write. A loop, so that one walk tests each digit and reads it; `parse` takes a text, and takes a plus and more digits too.
 fn natural(text: &[u8]) -> Option<u64>
     ensures { result ≡ natural_of text.now }
 {
